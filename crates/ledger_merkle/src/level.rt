@@ -199,3 +199,17 @@ pub fn skip_levels(levels: &mut Vec<Level>, front: u64, loc: u64)
         next /= 2;
     }
 }
+
+/// Drops on each level the nodes that are whole only with leaves from `size` on.
+pub fn cut_levels(levels: &mut Vec<Level>, front: u64, size: u64)
+    requires { front ≤ size }
+    ensures { (h : ℕ) → get_or levels.new.items h [] ≡ take (size / 2 ^ h - front / 2 ^ h) (get_or levels.old.items h []) }
+{
+    let mut first = front;
+    let mut next = size;
+    for level in levels.iter_mut() {
+        level.shorten((next - first) as usize);
+        first /= 2;
+        next /= 2;
+    }
+}

@@ -1,14 +1,15 @@
 //! The list with a front: one digest is kept for each whole node from the front on, so that nothing is
 //! ever hashed twice.
-ghost use Rattle.std.specs.Prelude.{◌≡◌, ◌≢◌, ℕ, ◌+◌, ◌-◌, ◌*◌, ◌/◌, ◌<◌, ◌≤◌, ◌^◌, ◌∷◌, ◌++◌, ◌↔◌, List as Items, [], length, get_or, take, drop, reverse, count_ones, MatchOption, OnOk, OnErr, IfOk, IsTrue};
+ghost use Rattle.std.specs.Prelude.{◌≡◌, ◌≢◌, ℕ, ◌+◌, ◌-◌, ◌*◌, ◌/◌, ◌<◌, ◌≤◌, ◌^◌, ◌∷◌, ◌++◌, ◌↔◌, List as Items, [], length, get_or, take, drop, reverse, count_ones, MatchOption, OnOk, OnErr, IfOk, IsTrue, map};
 ghost use Rattle.ledger_merkle.specs.Tree.{root};
 ghost use Rattle.ledger_merkle.specs.Range.{RangeOk, is_outside};
 ghost use Rattle.ledger_merkle.specs.Leaves.{ListView, leaves_from, list_size, list_root, peaks_at, root_at};
-ghost use Rattle.ledger_merkle.specs.Levels.{nodes, tree, outside_of};
+ghost use Rattle.ledger_merkle.specs.Levels.{nodes, tree, outside_of, proof_digests};
 
-use crate::level::{Level, add, length_of, skip_levels};
+use crate::hashed::hash_item;
+use crate::level::{Level, add, cut_levels, length_of, skip_levels};
 use crate::range::width_of;
-use crate::{Hasher, Location, Proof};
+use crate::{Hasher, Leaf, Location, Proof};
 use ledger_codec::{Digest, List, OutOfMemory};
 use std::alloc::Global;
 use std::marker::{Model, PhantomData};
@@ -120,6 +121,44 @@ impl<H: Hasher> MerkleList<H> {
         Ok(())
     }
 
+    /// The items as leaves more, in order: all of them or, where memory is refused, none.
+    pub fn extend<T: Leaf>(&mut self, items: &[T]) -> Result<(), OutOfMemory>
+        requires { list_size self.old + length items.now ≤ 2 ^ 62 }
+        ensures ok { OnOk result (self.new ≡ record { front = self.old.front; pinned = self.old.pinned; leaves = self.old.leaves ++ leaves_from H.digest (list_size self.old) (map T.spelling items.now) }) }
+        ensures err { OnErr result (self.new ≡ self.old) }
+    {
+        let size = self.size();
+        match self.push_items(items) {
+            Ok(()) => Ok(()),
+            Err(fault) => {
+                self.shorten(size);
+                Err(fault)
+            }
+        }
+    }
+
+    /// Pushes the items one by one, as far as memory lasts.
+    fn push_items<T: Leaf>(&mut self, items: &[T]) -> Result<(), OutOfMemory>
+        requires { list_size self.old + length items.now ≤ 2 ^ 62 }
+        ensures ok { OnOk result (self.new ≡ record { front = self.old.front; pinned = self.old.pinned; leaves = self.old.leaves ++ leaves_from H.digest (list_size self.old) (map T.spelling items.now) }) }
+        ensures some { OnErr result ((self.new.front ≡ self.old.front) × (self.new.pinned ≡ self.old.pinned) × (take (length self.old.leaves) self.new.leaves ≡ self.old.leaves) × (length self.old.leaves ≤ length self.new.leaves)) }
+    {
+        for item in items {
+            let digest = hash_item::<H, T>(self.size(), item);
+            self.push(digest)?;
+        }
+        Ok(())
+    }
+
+    /// The first `size` leaves alone.
+    pub fn shorten(&mut self, size: Location)
+        requires least { self.old.front ≤ size }
+        requires most { size ≤ list_size self.old }
+        ensures { self.new ≡ record { front = self.old.front; pinned = self.old.pinned; leaves = take (size - self.old.front) self.old.leaves } }
+    {
+        cut_levels(&mut self.levels, self.front.get(), size.get());
+    }
+
     /// The node of this height with this index, kept or pinned.
     fn node_at(&self, height: u32, index: u64) -> Digest
         requires high { height ≤ 62 }
@@ -190,6 +229,7 @@ impl<H: Hasher> MerkleList<H> {
         requires least { self.now.front ≤ start }
         requires within { start + count ≤ op_count }
         requires most { op_count ≤ list_size self.now }
+        ensures exact { IfOk result (λ proof. proof ≡ record { leaves = op_count; inactive_peaks = 0; digests = proof_digests H.digest self.now op_count start count }) }
         ensures holds { IfOk result (λ proof. (items : Items (Items ℕ)) → leaves_from H.digest start items ≡ take count (drop (start - self.now.front) self.now.leaves) → RangeOk H.digest (root_at H.digest self.now op_count) proof.leaves proof.inactive_peaks proof.digests op_count start items) }
         ensures last { IfOk result (λ proof. count ≡ 1 → start + 1 ≡ op_count → proof.digests ≡ peaks_at H.digest self.now start) }
     {

@@ -92,3 +92,23 @@ returns-clause-last g c one next =
     ∙ (ap (λ x. outside_below trees s x m 63 0) end
     ∙ (last_leaf trees s m 63 0 (sym next) whole some low
     ∙ sym (peaks_are hash v s count c.requires.least (omega (arith, next, c.requires.most)) (omega (arith, next)))))
+
+pub returns-clause-exact : goal.returns-clause-exact
+returns-clause-exact g c =
+    let hash = g.H.Hasher.digest in
+    let v = c.args.self.now in
+    let trees = tree hash (reverse v.pinned) v.front v.leaves in
+    let n = c.get-size.result in
+    let s = c.args.start in
+    let e = c.get.result + c.args.count in
+    let size : n ≡ c.args.op_count = c.get-size.ensures.same in
+    let zero : c.loop-height.height ≡ 0 = omega arith in
+    let none : outside_below trees s e n c.loop-height.height (begins n c.loop-height.height) ≡ [] = ap (λ k. outside_below trees s e n k (begins n k)) zero ∙ outside_end trees s e n (begins n 0) in
+    let all : c.from_vec.result ≡ outside_below trees s (s + c.args.count) c.args.op_count 63 0 =
+    c.from_vec.ensures
+    ∙ (sym (append-nil c.loop-height.digests.items)
+    ∙ (ap (λ l. c.loop-height.digests.items ++ l) (sym none)
+    ∙ (c.loop-height.invariant.done
+    ∙ (ap (λ m. outside_below trees s e m 63 0) size
+    ∙ ap (λ x. outside_below trees s (x + c.args.count) c.args.op_count 63 0) c.get.ensures.same)))) in
+    ap (λ x. record { leaves = c.args.op_count; inactive_peaks = 0; digests = x }) all
