@@ -1,0 +1,10 @@
+pub mod View
+pub mod Faults
+pub mod Spelling
+pub mod Unique
+pub mod Any
+pub mod Immutable
+pub mod Keyless
+pub use Rattle.ledger_merkle.specs.Tree
+pub use Rattle.ledger_merkle.specs.Range
+pub use Rattle.ledger_merkle.specs.Leaves
