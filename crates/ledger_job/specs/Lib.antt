@@ -1,0 +1,5 @@
+pub mod Number
+pub mod Keys
+pub mod Lines
+pub mod Jobs
+pub mod Gathered

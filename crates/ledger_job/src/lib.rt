@@ -1,0 +1,30 @@
+//! What a run is asked to do, and the text that says so.
+//!
+//! ```text
+//!   bytes --lines--> fields --line_of--> Line --job_of--> Job { opens, limits, blocks }
+//!                                          |
+//!                                          +--> the least offending line, counted from 1
+//! ```
+//!
+//! A job opens accounts and then lists blocks of transfers: a body, which settles whole, or rounds of
+//! candidates, of which those are taken that settle with the ones taken before them. The text is stated
+//! in `specs/Lines.antt` and `specs/Jobs.antt`, and in words in docs/FORMATS.md.
+#![tactic(auto)]
+
+mod block;
+mod build;
+mod job;
+mod key;
+mod line;
+mod number;
+mod payment;
+mod place;
+mod split;
+
+pub use block::{Block, BlockVerdicts};
+pub use job::{Job, JobFault, parse_job};
+pub use key::{filled, is_name};
+pub use line::{JobLimits, Line, Open};
+pub use number::parse_number;
+pub use payment::Payment;
+pub use place::Section;

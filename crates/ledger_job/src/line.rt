@@ -1,0 +1,182 @@
+//! The lines of a job, read one by one.
+ghost use Rattle.std.specs.Prelude.{◌≡◌, IfOk, map};
+ghost use Rattle.ledger_job.specs.Lines.{fields_of, is_skipped, open_from, limits_from, pay_from, in_range, one_word, three_words, four_words, five_words, line_of_fields, line_of};
+
+use crate::key::parse_key;
+use crate::number::parse_number;
+use crate::payment::Payment;
+use ledger_log::Key;
+use std::alloc::{AllocError, Global};
+
+/// An account that the served log opens.
+#[derive(Clone, Copy, Debug, PartialEq, Eq)]
+pub struct Open {
+    /// The account's key.
+    pub key: Key,
+    /// Its balance.
+    pub balance: u64,
+    /// Its next nonce.
+    pub nonce: u64,
+}
+
+/// How a log is fetched.
+#[derive(Clone, Copy, Debug, PartialEq, Eq)]
+pub struct JobLimits {
+    /// The most operations that one request asks for; above 0.
+    pub batch: u64,
+    /// How many requests may be out at once; from 1 to 64.
+    pub outstanding: u64,
+}
+
+/// What one line of a job says.
+#[derive(Clone, Copy, Debug, PartialEq, Eq)]
+pub enum Line {
+    /// Nothing: the line is empty or a comment.
+    Skipped,
+    /// An account of the served log.
+    Open(Open),
+    /// How the log is fetched.
+    Limits(JobLimits),
+    /// A body begins.
+    Body,
+    /// A block of rounds begins, without a round yet.
+    Rounds,
+    /// A round of the current block begins.
+    Round,
+    /// A payment of the current body or round.
+    Pay(Payment),
+}
+
+/// The fields of a line.
+fn fields(alloc: Global, line: &[u8]) -> Result<Vec<&[u8]>, AllocError>
+    ensures { IfOk result (λ v. map (λ x. x.now) v.items ≡ fields_of line.now) }
+{
+    line.split(|byte| *byte == b' ').collect(alloc)
+}
+
+/// What a line says, if it is a line of a job.
+#[tactic(auto, unfolding(crate::specs::Lines::line_of))]
+pub(crate) fn parse_line(alloc: Global, line: &[u8]) -> Result<Option<Line>, AllocError>
+    ensures { IfOk result (λ read. read ≡ line_of line.now) }
+{
+    if is_skipped(line) {
+        return Ok(Some(Line::Skipped));
+    }
+    let fields = fields(alloc, line)?;
+    Ok(line_of_fields(&fields))
+}
+
+/// Whether a line is empty or a comment.
+fn is_skipped(line: &[u8]) -> bool
+    ensures { result ≡ is_skipped line.now }
+{
+    match line {
+        [] => true,
+        [first, ..] => *first == b'#',
+    }
+}
+
+fn line_of_fields(fields: &[&[u8]]) -> Option<Line>
+    ensures { result ≡ line_of_fields (map (λ x. x.now) fields.now) }
+{
+    match fields {
+        [word] => one_word(word),
+        [word, batch, outstanding] => three_words(word, batch, outstanding),
+        [word, key, balance, nonce] => four_words(word, key, balance, nonce),
+        [word, from, to, amount, nonce] => five_words(word, from, to, amount, nonce),
+        _ => None,
+    }
+}
+
+fn one_word(word: &[u8]) -> Option<Line>
+    ensures { result ≡ one_word word.now }
+{
+    if *word == *b"body".as_slice() {
+        Some(Line::Body)
+    } else if *word == *b"rounds".as_slice() {
+        Some(Line::Rounds)
+    } else if *word == *b"round".as_slice() {
+        Some(Line::Round)
+    } else {
+        None
+    }
+}
+
+fn three_words(word: &[u8], batch: &[u8], outstanding: &[u8]) -> Option<Line>
+    ensures { result ≡ three_words word.now batch.now outstanding.now }
+{
+    if *word == *b"limits".as_slice() {
+        limits_from(parse_number(batch), parse_number(outstanding))
+    } else {
+        None
+    }
+}
+
+fn limits_from(batch: Option<u64>, outstanding: Option<u64>) -> Option<Line>
+    ensures { result ≡ limits_from batch outstanding }
+{
+    let batch = batch?;
+    let outstanding = outstanding?;
+    if in_range(batch, outstanding) {
+        Some(Line::Limits(JobLimits { batch, outstanding }))
+    } else {
+        None
+    }
+}
+
+fn in_range(batch: u64, outstanding: u64) -> bool
+    ensures { result ≡ in_range batch outstanding }
+{
+    batch > 0 && outstanding > 0 && outstanding <= 64
+}
+
+fn four_words(word: &[u8], key: &[u8], balance: &[u8], nonce: &[u8]) -> Option<Line>
+    ensures { result ≡ four_words word.now key.now balance.now nonce.now }
+{
+    if *word == *b"open".as_slice() {
+        open_from(parse_key(key), parse_number(balance), parse_number(nonce))
+    } else {
+        None
+    }
+}
+
+fn open_from(key: Option<Key>, balance: Option<u64>, nonce: Option<u64>) -> Option<Line>
+    ensures { result ≡ open_from key balance nonce }
+{
+    Some(Line::Open(Open {
+        key: key?,
+        balance: balance?,
+        nonce: nonce?,
+    }))
+}
+
+fn five_words(word: &[u8], from: &[u8], to: &[u8], amount: &[u8], nonce: &[u8]) -> Option<Line>
+    ensures { result ≡ five_words word.now from.now to.now amount.now nonce.now }
+{
+    if *word == *b"pay".as_slice() {
+        pay_from(
+            parse_key(from),
+            parse_key(to),
+            parse_number(amount),
+            parse_number(nonce),
+        )
+    } else {
+        None
+    }
+}
+
+fn pay_from(
+    from: Option<Key>,
+    to: Option<Key>,
+    amount: Option<u64>,
+    nonce: Option<u64>,
+) -> Option<Line>
+    ensures { result ≡ pay_from from to amount nonce }
+{
+    Some(Line::Pay(Payment {
+        from: from?,
+        to: to?,
+        amount: amount?,
+        nonce: nonce?,
+    }))
+}
