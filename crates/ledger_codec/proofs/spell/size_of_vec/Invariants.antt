@@ -1,0 +1,8 @@
+use Rattle.std.proofs.Common.{◌≡◌, ◌++◌, length, take}
+use Rattle.std.specs.List.{flat_map}
+use Rattle.ledger_codec.specs.Numbers.{varint}
+use Rattle.ledger_codec.specs.Sequences.{size_of}
+use Rattle.ledger_codec.proofs.spell.size_of_vec.Given as goal
+
+abbrev pub invariant-loop-value : goal.invariant-loop-value
+invariant-loop-value g l = l.total ≡ size_of (varint (length l.values) ++ flat_map g.T.Spell.written (take l.value-index l.values))
