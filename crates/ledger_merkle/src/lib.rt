@@ -24,6 +24,7 @@ mod peaks;
 mod proof;
 mod range;
 mod sha;
+mod spelling;
 mod toy;
 
 pub use hashed::{hash_item, hash_leaf, hash_node, hash_root};
