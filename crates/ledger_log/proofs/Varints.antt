@@ -3,7 +3,7 @@ use Rattle.std.proofs.lemmas.Bool.Decides.{nat_tests}
 use Rattle.std.proofs.lemmas.List.{append_assoc, take_more_set}
 use Rattle.std.proofs.Math.Nat.{pow-suc}
 use Rattle.std.proofs.Math.ListN.{set}
-use Rattle.ledger_log.specs.Spelling.{varint_within}
+use Rattle.ledger_codec.specs.Numbers.{varint_within}
 
 pub varint_step : (k j n : ℕ) → k ≡ suc j → 128 ≤ n → varint_within k n ≡ (n % 128 + 128) ∷ varint_within j (n / 128)
 varint_step k j n e h = rw e (let t : nat_lt n 128 ≡ false = grind (arith, nat_tests) in rw t refl)

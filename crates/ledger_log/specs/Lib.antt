@@ -8,3 +8,4 @@ pub mod Keyless
 pub use Rattle.ledger_merkle.specs.Tree
 pub use Rattle.ledger_merkle.specs.Range
 pub use Rattle.ledger_merkle.specs.Leaves
+pub mod Spellings

@@ -1,13 +1,5 @@
-use Rattle.std.specs.Prelude.{◌≡◌, ℕ, suc, zero, ◌+◌, ◌%◌, ◌/◌, ◌^◌, ◌≤◌, nat_lt, cond, List, [], ◌∷◌, ◌++◌, length, Option, Some, None}
-
--- seven bits a byte, low group first, the top bit set on all bytes but the last, in at most k bytes
-abbrev pub varint_within : ℕ → ℕ → List ℕ
-varint_within zero n = []
-varint_within (suc k) n = cond (nat_lt n 128) (n ∷ []) ((n % 128 + 128) ∷ varint_within k (n / 128))
-
--- the spelling of a number of 64 bits
-unfoldable pub varint : ℕ → List ℕ
-varint n = varint_within 10 n
+use Rattle.std.specs.Prelude.{◌≡◌, ℕ, ◌^◌, ◌≤◌, List, ◌∷◌, ◌++◌, length, Option, Some, None}
+use Rattle.ledger_codec.specs.Numbers.{varint}
 
 -- what follows a commit's tag: a flag, the metadata where there are any, and the floor
 abbrev pub commit_spelling : Option (List ℕ) → ℕ → List ℕ

@@ -2,7 +2,8 @@ use Rattle.std.proofs.Common.{◌≡◌, ℕ, zero, suc, ◌+◌, ◌*◌, ◌/�
 use Rattle.std.proofs.lemmas.Bool.Decides.{nat_tests}
 use Rattle.std.proofs.lemmas.List.{take_at, drop_at}
 use Rattle.std.proofs.Math.Nat.{pow-suc}
-use Rattle.ledger_log.specs.Spelling.{varint, varint_within, commit_spelling, IsSoundCommit}
+use Rattle.ledger_codec.specs.Numbers.{varint, varint_within}
+use Rattle.ledger_log.specs.Spelling.{commit_spelling, IsSoundCommit}
 
 -- two lists in two parts, of which the first are equally long
 pub split_equal : (a c b d : List ℕ) → length a ≡ length c → a ++ b ≡ c ++ d → (a ≡ c) × (b ≡ d)

@@ -1,6 +1,7 @@
 //! Writing the leaf bytes of operations.
 ghost use Rattle.std.specs.Prelude.{◌≡◌, ℕ, ◌+◌, ◌≤◌, ◌++◌, length, take};
-ghost use Rattle.ledger_log.specs.Spelling.{varint, commit_spelling, IsSoundCommit};
+ghost use Rattle.ledger_codec.specs.Numbers.{varint};
+ghost use Rattle.ledger_log.specs.Spelling.{commit_spelling, IsSoundCommit};
 
 use crate::Value;
 use ledger_merkle::Location;

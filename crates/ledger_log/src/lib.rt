@@ -18,6 +18,7 @@ mod family;
 mod fault;
 mod immutable;
 mod keyless;
+mod spelling;
 mod target;
 
 pub use any::{AnyFamily, AnyOp};

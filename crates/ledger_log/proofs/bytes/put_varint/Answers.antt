@@ -1,6 +1,6 @@
 use Rattle.std.proofs.Common.{◌≡◌, suc, ◌+◌, ◌-◌, ◌%◌, ◌<◌, ◌++◌, take, ap, ◌∙◌, arith}
 use Rattle.std.proofs.Math.ListN.{length-set}
-use Rattle.ledger_log.specs.Spelling.{varint, varint_within}
+use Rattle.ledger_codec.specs.Numbers.{varint, varint_within}
 use Rattle.ledger_log.proofs.Varints.{seven_fewer, varint_more, needs_two, fits_ten}
 use Rattle.ledger_log.proofs.bytes.put_varint.Goals as goal
 

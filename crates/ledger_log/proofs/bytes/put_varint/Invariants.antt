@@ -1,5 +1,5 @@
 use Rattle.std.proofs.Common.{◌+◌, ◌-◌, ◌≡◌, ◌≤◌, ◌^◌, ◌++◌, length, take, ◌<◌}
-use Rattle.ledger_log.specs.Spelling.{varint, varint_within}
+use Rattle.ledger_codec.specs.Numbers.{varint, varint_within}
 use Rattle.ledger_log.proofs.bytes.put_varint.Given as goal
 
 abbrev pub invariant-loop-rest : goal.invariant-loop-rest
