@@ -1,4 +1,4 @@
-use Rattle.std.proofs.Common.{◌≡◌, ℕ, ◌+◌, List, [], ◌∷◌, ◌++◌, length, map, refl, ◌∙◌, Option, Some, None, Bool, true, false, cond}
+use Rattle.std.proofs.Common.{◌≡◌, ℕ, zero, suc, ◌+◌, ◌<◌, arith, List, drop, [], ◌∷◌, ◌++◌, length, map, refl, ◌∙◌, Option, Some, None, Bool, true, false, cond}
 use Rattle.std.specs.Option.{is_some}
 use Rattle.std.proofs.lemmas.List.{map-append, length-map}
 use Rattle.ledger_merkle.specs.Tree.{grow}
@@ -34,3 +34,10 @@ module _ {Op : Type 0} where
   pub grow_ops : (hash : List ℕ → List ℕ) (spelling : Op → List ℕ) (n : ℕ) (ps : List (List ℕ)) (xs ys : List Op) →
       grow hash n ps (map spelling (xs ++ ys)) ≡ grow hash (n + length xs) (grow hash n ps (map spelling xs)) (map spelling ys)
   grow_ops hash spelling n ps xs ys = rw (map-append, grow-append, length-map) refl
+
+  -- the last operation stays where others are dropped
+  pub last_floor-drop : (f : Op → Option ℕ) (c : ℕ) (xs : List Op) → c < length xs → last_floor f (drop c xs) ≡ last_floor f xs
+  last_floor-drop f zero xs l = refl
+  last_floor-drop f (suc c) [] l = absurd (omega arith)
+  last_floor-drop f (suc c) (x ∷ []) l = absurd (omega arith)
+  last_floor-drop f (suc c) (x ∷ y ∷ ys) l = last_floor-drop f c (y ∷ ys) (omega arith)

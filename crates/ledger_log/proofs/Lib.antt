@@ -1,2 +1,4 @@
 pub mod Floors
 pub mod Varints
+pub mod Indexing
+pub mod Logs

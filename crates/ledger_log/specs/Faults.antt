@@ -1,7 +1,7 @@
 use Rattle.std.specs.Prelude.{ℕ, ◌+◌, ◌-◌, ◌^◌, if◌then◌else◌, nat_eq, nat_lt, nat_le, List, length, count_ones, Option, Some, None}
 use Rattle.ledger_log.specs.View.{LogView, log_size, log_floor, last_floor, batch_floor}
 use Rattle.ledger_log.specs.declared.fault.LogFault.{LogFault}
-use Rattle.ledger_log.specs.declared.fault.LogFault.TheVariants.{NoCommit, FloorOutside, Nodes, Size, NotABatch, FloorRegressed, FloorBeyond, Full}
+use Rattle.ledger_log.specs.declared.fault.LogFault.TheVariants.{NoCommit, FloorOutside, Nodes, Size, Beyond, Pruned, AboveFloor, NotABatch, FloorRegressed, FloorBeyond, Full}
 
 -- why a list that begins at `start`, is `size` long with what lies below, and has this last floor is no log
 abbrev pub floor_refusal : ℕ → ℕ → Option ℕ → Option LogFault
@@ -28,3 +28,13 @@ module _ {Op : Type 0} where
   -- why this log takes no such batch, without want of memory
   abbrev pub append_refusal : (Op → Option ℕ) → LogView Op → List Op → Option LogFault
   append_refusal floor_of log ops = batch_refusal (log_size log) (log_floor floor_of log) (length ops) (batch_floor floor_of ops)
+
+  -- why there are no operations of this log from `start` on in the tree of the first `count`, without want of memory
+  abbrev pub range_refusal : LogView Op → ℕ → ℕ → Option LogFault
+  range_refusal log count start =
+      if nat_lt (log_size log) count then Some (Beyond (log_size log)) else
+      (if nat_lt start log.front then Some (Pruned log.front) else None)
+
+  -- why this log can't begin at this place, without want of memory
+  abbrev pub prune_refusal : (Op → Option ℕ) → LogView Op → ℕ → Option LogFault
+  prune_refusal floor_of log loc = if nat_lt (log_floor floor_of log) loc then Some (AboveFloor (log_floor floor_of log)) else None

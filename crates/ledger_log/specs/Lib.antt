@@ -5,6 +5,7 @@ pub mod Unique
 pub mod Any
 pub mod Immutable
 pub mod Keyless
+pub mod Index
 pub use Rattle.ledger_merkle.specs.Tree
 pub use Rattle.ledger_merkle.specs.Range
 pub use Rattle.ledger_merkle.specs.Leaves

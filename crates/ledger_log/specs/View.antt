@@ -1,7 +1,8 @@
-use Rattle.std.specs.Prelude.{ℕ, ◌+◌, cond, List, [], ◌∷◌, length, map, Option, Some, None, is_some}
+use Rattle.std.specs.Prelude.{ℕ, ◌+◌, ◌-◌, cond, max, List, [], ◌∷◌, length, map, take, drop, Option, Some, None, is_some}
 use Rattle.std.specs.List.{last_or, filter_map}
 use Rattle.std.specs.Str.{bytes_eq}
 use Rattle.ledger_merkle.specs.Tree.{grow, root}
+use Rattle.ledger_merkle.specs.Leaves.{ListView, leaves_from}
 
 -- a log: its first retained place, the peaks there, and the operations from there on
 pub record LogView (Op : Type 0) : Type 0 where
@@ -66,3 +67,24 @@ module _ {Op : Type 0} where
   -- the value of the key's last write, None where there is none or it is a deletion
   abbrev pub value_at : (Op → Option (List ℕ × Option (List ℕ))) → List ℕ → List Op → Option (List ℕ)
   value_at write_of key ops = value_or_none (last_or None (filter_map (λ op. written_at key (write_of op)) ops))
+
+  -- the list of a log's leaves
+  abbrev pub log_list : (List ℕ → List ℕ) → (Op → List ℕ) → LogView Op → ListView
+  log_list hash spelling log = record { front = log.front; pinned = log.pinned; leaves = leaves_from hash log.front (map spelling log.ops) }
+
+  -- the peaks of the first `at` operations
+  abbrev pub log_peaks_at : (List ℕ → List ℕ) → (Op → List ℕ) → LogView Op → ℕ → List (List ℕ)
+  log_peaks_at hash spelling log at = grow hash log.front log.pinned (map spelling (take (at - log.front) log.ops))
+
+  -- the root of the first `at` operations
+  abbrev pub log_root_at : (List ℕ → List ℕ) → (Op → List ℕ) → LogView Op → ℕ → List ℕ
+  log_root_at hash spelling log at = root hash at (log_peaks_at hash spelling log at)
+
+  -- `count` operations from `start` on
+  abbrev pub log_range : LogView Op → ℕ → ℕ → List Op
+  log_range log start count = take count (drop (start - log.front) log.ops)
+
+  -- the log without the operations below the greater of its front and `loc`
+  abbrev pub pruned : (List ℕ → List ℕ) → (Op → List ℕ) → LogView Op → ℕ → LogView Op
+  pruned hash spelling log loc =
+      record { front = max log.front loc; pinned = log_peaks_at hash spelling log (max log.front loc); ops = drop (max log.front loc - log.front) log.ops }

@@ -4,7 +4,7 @@ ghost use Rattle.std.specs.Prelude.{◌≡◌};
 
 use ledger_codec::{Digest, OutOfMemory};
 use ledger_merkle::Location;
-use std::alloc::AllocError;
+use std::alloc::{AllocError, AllocFailed};
 
 /// Why a call of a log was refused.
 #[derive(Drop, Debug)]
@@ -51,6 +51,14 @@ impl From<AllocError> for LogFault {
     ghost from_gives = { λ _ e. e ≡ out_of_memory };
 
     fn from(_e: AllocError) -> LogFault {
+        LogFault::OutOfMemory
+    }
+}
+
+impl<T: Drop> From<AllocFailed<T>> for LogFault {
+    ghost from_gives = { λ _ e. e ≡ out_of_memory };
+
+    fn from(_e: AllocFailed<T>) -> LogFault {
         LogFault::OutOfMemory
     }
 }

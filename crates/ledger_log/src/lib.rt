@@ -17,7 +17,9 @@ mod bytes;
 mod family;
 mod fault;
 mod immutable;
+mod index;
 mod keyless;
+mod log;
 mod spelling;
 mod target;
 
@@ -26,4 +28,5 @@ pub use family::{CompactFamily, Family, Key, KeyedFamily, Value};
 pub use fault::LogFault;
 pub use immutable::{ImmutableFamily, ImmutableOp};
 pub use keyless::{KeylessFamily, KeylessOp};
+pub use log::Log;
 pub use target::{CompactState, CompactTarget, Target};
