@@ -1,4 +1,4 @@
-use Rattle.std.proofs.Common.{◌≡◌, ℕ, zero, suc, ◌+◌, ◌-◌, ◌<◌, ◌≤◌, ◌⊎◌, inl, inr, Bool, true, false, cond, nat_le, List, [], ◌∷◌, ◌++◌, length, take, drop, get_or, Option, Some, None, All, refl, sym, ap, subst, ◌∙◌, bytes_eq, arith}
+use Rattle.std.proofs.Common.{◌≡◌, ℕ, suc, ◌+◌, ◌-◌, ◌<◌, ◌≤◌, ◌⊎◌, inl, inr, Bool, true, false, cond, nat_le, List, [], ◌∷◌, ◌++◌, length, take, drop, get_or, Option, Some, None, All, refl, sym, ap, subst, ◌∙◌, bytes_eq, arith}
 use Rattle.std.specs.Prelude.{is_some, IsSome}
 use Rattle.std.specs.List.{last_or, filter_map, cons_option}
 use Rattle.std.specs.BTreeMap.{BTreeMap}
@@ -6,7 +6,6 @@ use Rattle.std.specs.Ordering.{nat_cmp, is_eq}
 use Rattle.std.specs.Cmp.Lexicographic.{slice_cmp, texts_ties}
 use Rattle.std.proofs.lemmas.Slice.Eq.{bytes_eq-Decides}
 use Rattle.std.proofs.lemmas.List.{take-append-drop, length-take-le}
-use Rattle.std.proofs.lemmas.Grind.{common_steps}
 use Rattle.std.proofs.lemmas.Bool.Decides.{nat_tests}
 use Rattle.ledger_merkle.proofs.Trees.{below_or_not}
 use Rattle.ledger_log.specs.View.{written_at, value_or_none, value_at, key_written, value_written}
@@ -51,8 +50,8 @@ module _ (old new : BTreeMap (List ℕ) ℕ) (key : List ℕ) (w : Option ℕ) (
   stale_gone front z l q = ap (λ o. retained front (or_zero o)) (entry_where q) ∙ either (bytes_eq key q) refl where
     either : (b : Bool) → bytes_eq key q ≡ b → retained front (or_zero (cond b w (entry_at old q))) ≡ retained front (or_zero (entry_at old q))
     either true e =
-      let same : key ≡ q = (bytes_eq-Decides key q).0 e in
-      ap (λ o. retained front (or_zero o)) z ∙ (retained_zero front 0 (omega arith) ∙ sym (retained_zero front (end_at old q) (subst (λ k. end_at old k ≤ front) same l)))
+        let same : key ≡ q = (bytes_eq-Decides key q).0 e in
+        ap (λ o. retained front (or_zero o)) z ∙ (retained_zero front 0 (omega arith) ∙ sym (retained_zero front (end_at old q) (subst (λ k. end_at old k ≤ front) same l)))
     either false e = refl
 
 -- a place after a list in two runs
@@ -83,10 +82,10 @@ module _ {Op : Type 0} (w : Op → Option (List ℕ × Option (List ℕ))) (key 
 
   -- an operation's write, noted
   pub write_noted : (start before end : ℕ) (xs : List Op) (x : Op) → end ≡ start + length xs + 1 →
-    end_where (key_written (w x)) key end (end_after start before (last_write w key xs)) ≡ end_after start before (last_write w key (xs ++ x ∷ []))
+      end_where (key_written (w x)) key end (end_after start before (last_write w key xs)) ≡ end_after start before (last_write w key (xs ++ x ∷ []))
   write_noted start before end xs x e = noted (w x) refl ∙ sym (ap (end_after start before) (last_write-append xs (x ∷ []))) where
     noted : (o : Option (List ℕ × Option (List ℕ))) → w x ≡ o → end_where (key_written o) key end (end_after start before (last_write w key xs))
-      ≡ end_after start before (place_in_two (length xs) (last_write w key xs) (place_after (writes_key key (w x)) None))
+        ≡ end_after start before (place_in_two (length xs) (last_write w key xs) (place_after (writes_key key (w x)) None))
     noted None h = rw h refl
     noted (Some (k, v)) h = rw h (hit (bytes_eq k key)) where
       hit : (b : Bool) → cond b end (end_after start before (last_write w key xs)) ≡ end_after start before (place_in_two (length xs) (last_write w key xs) (place_after (is_some (cond b (Some v) None)) None))
@@ -96,28 +95,29 @@ module _ {Op : Type 0} (w : Op → Option (List ℕ × Option (List ℕ))) (key 
 -- what is retained is the entry itself, or the entry is stale
 retained_or_not : (front e : ℕ) → ((e ≤ front) × (retained front e ≡ 0)) ⊎ ((front < e) × (retained front e ≡ e))
 retained_or_not front e = elim (below_or_not e front) [
-    | inl l ↦ inl (l, retained_zero front e l)
-    | inr l ↦ inr (l, retained_same front e l)
-  ]
+  | inl l ↦ inl (l, retained_zero front e l)
+  | inr l ↦ inr (l, retained_same front e l)
+]
 
 module _ {Op : Type 0} (w : Op → Option (List ℕ × Option (List ℕ))) where
   -- the index of a log with more operations
   pub index_more : (old new : BTreeMap (List ℕ) ℕ) (front size : ℕ) (xs ys : List Op) → IsIndex w old front xs → size ≡ front + length xs →
-    ((k : List ℕ) → end_at new k ≡ end_after size (end_at old k) (last_write w k ys)) → IsIndex w new front (xs ++ ys)
+      ((k : List ℕ) → end_at new k ≡ end_after size (end_at old k) (last_write w k ys)) → IsIndex w new front (xs ++ ys)
   index_more old new front size xs ys i e u k =
       ap (retained front) (u k) ∙ (both (last_write w k ys) ∙ sym (ap (end_after front 0) (last_write-append w k xs ys))) where
-    both : (o : Option ℕ) → retained front (end_after size (end_at old k) o) ≡ end_after front 0 (place_in_two (length xs) (last_write w k xs) o)
-    both None = i k
-    both (Some j) = retained_same front (size + j + 1) (omega arith) ∙ omega arith
+        both : (o : Option ℕ) → retained front (end_after size (end_at old k) o) ≡ end_after front 0 (place_in_two (length xs) (last_write w k xs) o)
+        both None = i k
+        both (Some j) = retained_same front (size + j + 1) (omega arith) ∙ omega arith
 
   -- the index of a log without its first operations
   pub index_pruned : (old new : BTreeMap (List ℕ) ℕ) (front loc c : ℕ) (xs : List Op) → IsIndex w old front xs → loc ≡ front + c → c ≤ length xs →
-    ((k : List ℕ) → retained loc (end_at new k) ≡ retained loc (end_at old k)) → IsIndex w new loc (drop c xs)
+      ((k : List ℕ) → retained loc (end_at new k) ≡ retained loc (end_at old k)) → IsIndex w new loc (drop c xs)
   index_pruned old new front loc c xs i e b u k = u k ∙ split (last_write w k (take c xs)) (last_write w k (drop c xs)) refl refl where
     whole : last_write w k xs ≡ place_in_two c (last_write w k (take c xs)) (last_write w k (drop c xs))
     whole =
         ap (last_write w k) (sym (take-append-drop c xs))
         ∙ (last_write-append w k (take c xs) (drop c xs) ∙ ap (λ n. place_in_two n (last_write w k (take c xs)) (last_write w k (drop c xs))) (length-take-le c xs b))
+
     split : (o p : Option ℕ) → last_write w k (take c xs) ≡ o → last_write w k (drop c xs) ≡ p → retained loc (end_at old k) ≡ end_after loc 0 p
     split o (Some j) f g =
         let is : retained front (end_at old k) ≡ front + (c + j) + 1 = i k ∙ ap (end_after front 0) (whole ∙ ap (place_in_two c (last_write w k (take c xs))) g) in
@@ -145,7 +145,7 @@ module _ {Op : Type 0} (w : Op → Option (List ℕ × Option (List ℕ))) where
     last_none [] d h = refl
     last_none (x ∷ xs) d h = step (written_at key (w x)) (last_write w key xs) refl refl (last_none xs d) where
       step : (o : Option (Option (List ℕ))) (p : Option ℕ) → written_at key (w x) ≡ o → last_write w key xs ≡ p →
-        (last_write w key xs ≡ None → last_or d (filter_map (λ op. written_at key (w op)) xs) ≡ d) → last_or d (cons_option o (filter_map (λ op. written_at key (w op)) xs)) ≡ d
+          (last_write w key xs ≡ None → last_or d (filter_map (λ op. written_at key (w op)) xs) ≡ d) → last_or d (cons_option o (filter_map (λ op. written_at key (w op)) xs)) ≡ d
       step None None e f before = before f
       step (Some v) None e f before = absurd (let z : place_after (is_some (Some v)) None ≡ None = ap (λ u. place_after (is_some u) None) (sym e) ∙ (ap (place_after (writes_key key (w x))) (sym f) ∙ h) in cc)
       step o (Some j) e f before = absurd (let z : Some (suc j) ≡ None = ap (place_after (writes_key key (w x))) (sym f) ∙ h in cc)
@@ -162,8 +162,8 @@ module _ {Op : Type 0} (w : Op → Option (List ℕ × Option (List ℕ))) where
     last_some [] d i z h = absurd cc
     last_some (x ∷ xs) d i z h = step (written_at key (w x)) (last_write w key xs) refl refl (λ e j. last_some xs e j z) where
       step : (o : Option (Option (List ℕ))) (p : Option ℕ) → written_at key (w x) ≡ o → last_write w key xs ≡ p →
-        ((e : Option (Option (List ℕ))) (j : ℕ) → last_write w key xs ≡ Some j → value_or_none (last_or e (filter_map (λ op. written_at key (w op)) xs)) ≡ value_written (w (get_or xs j z))) →
-        value_or_none (last_or d (cons_option o (filter_map (λ op. written_at key (w op)) xs))) ≡ value_written (w (get_or (x ∷ xs) i z))
+          ((e : Option (Option (List ℕ))) (j : ℕ) → last_write w key xs ≡ Some j → value_or_none (last_or e (filter_map (λ op. written_at key (w op)) xs)) ≡ value_written (w (get_or xs j z))) →
+          value_or_none (last_or d (cons_option o (filter_map (λ op. written_at key (w op)) xs))) ≡ value_written (w (get_or (x ∷ xs) i z))
       step None (Some j) e f later =
           let s : suc j ≡ i = (let y : Some (suc j) ≡ Some i = ap (place_after (writes_key key (w x))) (sym f) ∙ h in cc) in
           later d j f ∙ ap (λ n. value_written (w (get_or (x ∷ xs) n z))) s
@@ -181,6 +181,7 @@ module _ {Op : Type 0} (w : Op → Option (List ℕ × Option (List ℕ))) where
     found index front xs i l = there (last_write w key xs) refl where
       is : end_at index key ≡ end_after front 0 (last_write w key xs)
       is = sym (retained_same front (end_at index key) l) ∙ i key
+
       there : (o : Option ℕ) → last_write w key xs ≡ o → o ≡ Some (end_at index key - front - 1)
       there None e = absurd (let z : end_at index key ≡ 0 = is ∙ ap (end_after front 0) e in omega arith)
       there (Some j) e = let z : end_at index key ≡ front + j + 1 = is ∙ ap (end_after front 0) e in ap Some (omega arith)
@@ -190,6 +191,7 @@ module _ {Op : Type 0} (w : Op → Option (List ℕ × Option (List ℕ))) where
     not_found index front xs i l = there (last_write w key xs) refl where
       is : 0 ≡ end_after front 0 (last_write w key xs)
       is = sym (retained_zero front (end_at index key) l) ∙ i key
+
       there : (o : Option ℕ) → last_write w key xs ≡ o → o ≡ None
       there None e = refl
       there (Some j) e = absurd (let z : 0 ≡ front + j + 1 = is ∙ ap (end_after front 0) e in omega arith)
@@ -205,5 +207,5 @@ module _ {Op : Type 0} (w : Op → Option (List ℕ × Option (List ℕ))) where
 
 -- entries stay from turn to turn
 pub HasEntry-keys : {Op : Type 0} (f : Op → Option (List ℕ)) (old new : BTreeMap (List ℕ) ℕ) (ops : List Op) → ((other : Option (List ℕ)) → HasEntry old other → HasEntry new other) →
-  All (λ op. HasEntry old (f op)) ops → All (λ op. HasEntry new (f op)) ops
+    All (λ op. HasEntry old (f op)) ops → All (λ op. HasEntry new (f op)) ops
 HasEntry-keys f old new ops more all k d h = more (f (get_or ops k d)) (all k d h)

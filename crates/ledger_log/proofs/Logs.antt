@@ -1,4 +1,4 @@
-use Rattle.std.proofs.Common.{◌≡◌, ℕ, zero, suc, ◌+◌, ◌-◌, ◌≤◌, ◌<◌, List, [], ◌∷◌, ◌++◌, length, take, drop, map, max, refl, sym, ap, ◌∙◌, arith}
+use Rattle.std.proofs.Common.{◌≡◌, ℕ, zero, suc, ◌+◌, ◌-◌, ◌≤◌, List, [], ◌∷◌, ◌++◌, length, take, drop, map, refl, sym, ap, ◌∙◌, arith}
 use Rattle.std.proofs.lemmas.List.{length-map, length-drop, length-take-le, map-append, take-append-drop}
 use Rattle.ledger_merkle.specs.Tree.{leaf, grow, root}
 use Rattle.ledger_merkle.specs.Leaves.{ListView, leaves_from, pushed, list_size, list_root, peaks_at, root_at}
@@ -66,7 +66,7 @@ module _ {Op : Type 0} (hash : List ℕ → List ℕ) (spelling : Op → List �
 
   -- the leaves of more operations
   pub leaves_more : (more : List Op) (size : ℕ) → size ≡ log_size log →
-    leaves_from hash log.front (map spelling log.ops) ++ leaves_from hash size (map spelling more) ≡ leaves_from hash log.front (map spelling (log.ops ++ more))
+      leaves_from hash log.front (map spelling log.ops) ++ leaves_from hash size (map spelling more) ≡ leaves_from hash log.front (map spelling (log.ops ++ more))
   leaves_more more size e =
       let n : size ≡ log.front + length (map spelling log.ops) = e ∙ sym (ap (λ k. log.front + k) (length-map log.ops spelling)) in
       ap (λ k. leaves_from hash log.front (map spelling log.ops) ++ leaves_from hash k (map spelling more)) n
@@ -74,7 +74,7 @@ module _ {Op : Type 0} (hash : List ℕ → List ℕ) (spelling : Op → List �
 
   -- a log without its first operations
   pub view_below : (loc : ℕ) (v new : ListView) (left : List Op) → v ≡ log_list hash spelling log → new ≡ record { front = loc; pinned = peaks_at hash v loc; leaves = drop (loc - v.front) v.leaves } →
-    left ≡ drop (loc - log.front) log.ops → ◌≡◌ {A = LogView Op} (record { front = new.front; pinned = new.pinned; ops = left }) (record { front = loc; pinned = log_peaks_at hash spelling log loc; ops = drop (loc - log.front) log.ops })
+      left ≡ drop (loc - log.front) log.ops → ◌≡◌ {A = LogView Op} (record { front = new.front; pinned = new.pinned; ops = left }) (record { front = loc; pinned = log_peaks_at hash spelling log loc; ops = drop (loc - log.front) log.ops })
   view_below loc v new left e n o =
       let f : new.front ≡ loc = ap (λ (x : ListView). x.front) n in
       let p : new.pinned ≡ log_peaks_at hash spelling log loc = ap (λ (x : ListView). x.pinned) n ∙ (ap (λ (x : ListView). peaks_at hash x loc) e ∙ peaks_of_log loc) in
@@ -82,7 +82,7 @@ module _ {Op : Type 0} (hash : List ℕ → List ℕ) (spelling : Op → List �
 
   -- a log without its first operations has the root that it had
   pub root_below : (loc : ℕ) → log.front ≤ loc → loc ≤ log_size log →
-    log_root hash spelling (record { front = loc; pinned = log_peaks_at hash spelling log loc; ops = drop (loc - log.front) log.ops }) ≡ log_root hash spelling log
+      log_root hash spelling (record { front = loc; pinned = log_peaks_at hash spelling log loc; ops = drop (loc - log.front) log.ops }) ≡ log_root hash spelling log
   root_below loc l m =
       let c = loc - log.front in
       let first = map spelling (take c log.ops) in

@@ -286,7 +286,12 @@ impl<F: KeyedFamily, H: Hasher> Log<F, H> {
     pub fn get(&self, key: &Key) -> Option<Value>
         ensures { result ≡ value_at F.write_of key.now self.now.ops }
     {
-        look_up::<F>(&self.index, self.ops.as_slice(), self.list.front().get(), key)
+        look_up::<F>(
+            &self.index,
+            self.ops.as_slice(),
+            self.list.front().get(),
+            key,
+        )
     }
 }
 
@@ -314,10 +319,7 @@ fn floor_of_batch<F: Family>(ops: &[F::Op]) -> Option<Location>
 }
 
 /// The list with these items as leaves more. A refusal gives the list up.
-fn grown<H: Hasher, T: Leaf>(
-    list: MerkleList<H>,
-    items: &[T],
-) -> Result<MerkleList<H>, OutOfMemory>
+fn grown<H: Hasher, T: Leaf>(list: MerkleList<H>, items: &[T]) -> Result<MerkleList<H>, OutOfMemory>
     requires { list_size list + length items.now ≤ 2 ^ 62 }
     ensures { IfOk result (λ grown. grown ≡ record { front = list.front; pinned = list.pinned; leaves = list.leaves ++ leaves_from H.digest (list_size list) (map T.spelling items.now) }) }
 {

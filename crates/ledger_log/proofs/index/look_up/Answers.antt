@@ -1,4 +1,4 @@
-use Rattle.std.proofs.Common.{◌≡◌, ℕ, ◌+◌, ◌-◌, ◌<◌, ◌≤◌, length, get_or, sym, ap, subst, ◌∙◌, arith}
+use Rattle.std.proofs.Common.{◌≡◌, ◌-◌, ◌<◌, ◌≤◌, get_or, sym, ap, subst, ◌∙◌, arith}
 use Rattle.ledger_log.specs.View.{value_written}
 use Rattle.ledger_log.specs.Index.{end_at}
 use Rattle.ledger_log.proofs.Indexing.{found_within, found_value, no_value}

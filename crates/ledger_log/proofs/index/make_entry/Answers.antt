@@ -1,4 +1,4 @@
-use Rattle.std.proofs.Common.{◌≡◌, Option, Some, refl, false, sym, ◌∙◌}
+use Rattle.std.proofs.Common.{◌≡◌, Some, refl, false, sym, ◌∙◌}
 use Rattle.std.specs.Prelude.{is_some}
 use Rattle.ledger_log.specs.Index.{entry_at}
 use Rattle.ledger_log.proofs.Indexing.{new_entry, more_entries}

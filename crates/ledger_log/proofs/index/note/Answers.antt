@@ -1,7 +1,7 @@
-use Rattle.std.proofs.Common.{◌≡◌, ℕ, ◌+◌, ◌<◌, List, [], ◌∷◌, ◌++◌, length, take, get_or, All, Option, sym, ap, subst, ◌∙◌, arith}
+use Rattle.std.proofs.Common.{◌≡◌, ◌+◌, [], ◌∷◌, ◌++◌, length, take, sym, ap, ◌∙◌, arith}
 use Rattle.std.proofs.lemmas.List.{take_more, length-take-le}
 use Rattle.ledger_log.specs.View.{key_written}
-use Rattle.ledger_log.specs.Index.{HasEntry, end_at, end_where, end_after, last_write}
+use Rattle.ledger_log.specs.Index.{end_at, end_where, end_after, last_write}
 use Rattle.ledger_log.proofs.Indexing.{HasEntry-keys, write_noted}
 use Rattle.ledger_log.proofs.index.note.Goals as goal
 

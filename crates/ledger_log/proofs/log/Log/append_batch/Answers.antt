@@ -1,9 +1,9 @@
-use Rattle.std.proofs.Common.{◌≡◌, ℕ, ◌+◌, ◌-◌, ◌<◌, ◌≤◌, ◌^◌, ◌++◌, List, Some, length, map, count_ones, sym, ap, subst, ◌∙◌, arith}
+use Rattle.std.proofs.Common.{◌≡◌, ◌+◌, ◌++◌, Some, length, map, count_ones, sym, ap, subst, ◌∙◌, arith}
 use Rattle.std.proofs.lemmas.List.{length-append, length-map}
 use Rattle.ledger_merkle.specs.Leaves.{ListView, leaves_from, list_size}
 use Rattle.ledger_merkle.proofs.Levels.{length-leaves_from}
 use Rattle.ledger_log.specs.View.{LogView, log_size, batch_floor, last_floor}
-use Rattle.ledger_log.specs.Index.{IsIndex, end_at, end_after, last_write, retained}
+use Rattle.ledger_log.specs.Index.{IsIndex, retained}
 use Rattle.ledger_log.proofs.Floors.{last_floor-batch}
 use Rattle.ledger_log.proofs.Indexing.{index_more}
 use Rattle.ledger_log.proofs.Logs.{leaves_more}
@@ -34,12 +34,13 @@ invariant_of-self-2 g c =
     let batch : batch_floor f more ≡ Some c.in-Some.floor = sym c.in-Some.ensures.floor in
     let at : c.get-5.result ≡ v.front + length ops = c.get-5.ensures.same ∙ (c.size-old_size.ensures.size ∙ sym (ap log_size c.self.view_is)) in
     let held : IsIndex w c.make_room.new.index v.front ops = λ k. ap (retained v.front) (c.make_room.ensures.same k) ∙ inv.7 k in
-    let index : IsIndex w c.note.new.index v.front (ops ++ more) = index_more w c.make_room.new.index c.note.new.index v.front c.get-5.result ops more held at c.note.ensures in
-    ( ap length pinned ∙ (inv.0 ∙ ap count_ones (sym front))
-    , omega (arith, inv.1)
-    , many
-    , leaves ∙ (ap (λ z. leaves_from hash z (map spelling (ops ++ more))) (sym front) ∙ ap (λ z. leaves_from hash new.front (map spelling z)) (sym whole))
-    , ap (last_floor f) whole ∙ last_floor-batch f ops more c.in-Some.floor batch
-    , omega (arith, inv.5)
-    , omega arith
-    , subst (λ z. IsIndex w c.note.new.index new.front z) (sym whole) (subst (λ z. IsIndex w c.note.new.index z (ops ++ more)) (sym front) index) )
+    let index : IsIndex w c.note.new.index v.front (ops ++ more) = index_more w c.make_room.new.index c.note.new.index v.front c.get-5.result ops more held at c.note.ensures in (
+      ap length pinned ∙ (inv.0 ∙ ap count_ones (sym front)),
+      omega (arith, inv.1),
+      many,
+      leaves ∙ (ap (λ z. leaves_from hash z (map spelling (ops ++ more))) (sym front) ∙ ap (λ z. leaves_from hash new.front (map spelling z)) (sym whole)),
+      ap (last_floor f) whole ∙ last_floor-batch f ops more c.in-Some.floor batch,
+      omega (arith, inv.5),
+      omega arith,
+      subst (λ z. IsIndex w c.note.new.index new.front z) (sym whole) (subst (λ z. IsIndex w c.note.new.index z (ops ++ more)) (sym front) index),
+    )

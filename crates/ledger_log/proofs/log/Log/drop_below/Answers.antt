@@ -1,4 +1,4 @@
-use Rattle.std.proofs.Common.{◌≡◌, ℕ, ◌+◌, ◌-◌, ◌<◌, ◌≤◌, ◌^◌, List, Some, length, take, drop, map, count_ones, sym, ap, subst, ◌∙◌, arith}
+use Rattle.std.proofs.Common.{◌≡◌, ℕ, ◌-◌, ◌<◌, ◌≤◌, List, length, drop, map, count_ones, sym, ap, subst, ◌∙◌, arith}
 use Rattle.std.proofs.lemmas.List.{length-drop}
 use Rattle.ledger_merkle.specs.Leaves.{ListView, leaves_from, list_size, peaks_at}
 use Rattle.ledger_merkle.proofs.Pruned.{pruned_count}
@@ -38,15 +38,16 @@ invariant_of-self-2 g c =
     let many : length new.leaves ≡ length v.leaves - n = ap length leaves ∙ length-drop n v.leaves in
     let below : new.leaves ≡ leaves_from hash loc (map spelling (drop n ops)) = leaves ∙ (ap (drop n) inv.3 ∙ leaves_below hash spelling log loc least) in
     let index : IsIndex w c.forget.new.index loc (drop n ops) = index_pruned w c.self.inside.index c.forget.new.index v.front loc n ops inv.7 (omega arith) (omega arith)
-    (subst (λ z. (k : List ℕ) → retained z (end_at c.forget.new.index k) ≡ retained z (end_at c.self.inside.index k)) c.get-2.ensures.same c.forget.ensures) in
-    ( ap length pinned ∙ (pruned_count hash v loc inv.0 least size ∙ ap count_ones (sym front))
-    , omega (arith, inv.1)
-    , omega (arith, inv.2)
-    , below ∙ (ap (λ z. leaves_from hash z (map spelling (drop n ops))) (sym front) ∙ ap (λ z. leaves_from hash new.front (map spelling z)) (sym rest))
-    , ap (last_floor f) rest ∙ (last_floor-drop f n ops within ∙ inv.4)
-    , omega arith
-    , omega (arith, inv.6)
-    , subst (λ z. IsIndex w c.forget.new.index new.front z) (sym rest) (subst (λ z. IsIndex w c.forget.new.index z (drop n ops)) (sym front) index) )
+    (subst (λ z. (k : List ℕ) → retained z (end_at c.forget.new.index k) ≡ retained z (end_at c.self.inside.index k)) c.get-2.ensures.same c.forget.ensures) in (
+      ap length pinned ∙ (pruned_count hash v loc inv.0 least size ∙ ap count_ones (sym front)),
+      omega (arith, inv.1),
+      omega (arith, inv.2),
+      below ∙ (ap (λ z. leaves_from hash z (map spelling (drop n ops))) (sym front) ∙ ap (λ z. leaves_from hash new.front (map spelling z)) (sym rest)),
+      ap (last_floor f) rest ∙ (last_floor-drop f n ops within ∙ inv.4),
+      omega arith,
+      omega (arith, inv.6),
+      subst (λ z. IsIndex w c.forget.new.index new.front z) (sym rest) (subst (λ z. IsIndex w c.forget.new.index z (drop n ops)) (sym front) index),
+    )
 
 pub returns-clause-ok : goal.returns-clause-ok
 returns-clause-ok g c =

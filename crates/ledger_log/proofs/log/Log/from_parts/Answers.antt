@@ -1,4 +1,4 @@
-use Rattle.std.proofs.Common.{◌≡◌, ℕ, ◌+◌, ◌-◌, ◌<◌, ◌≤◌, ◌^◌, ◌++◌, [], List, Some, length, map, count_ones, sym, ap, subst, ◌∙◌, arith}
+use Rattle.std.proofs.Common.{◌≡◌, ◌++◌, [], Some, length, map, count_ones, sym, ap, subst, ◌∙◌, arith}
 use Rattle.std.proofs.lemmas.List.{length-map}
 use Rattle.ledger_merkle.specs.Leaves.{ListView, leaves_from, list_size}
 use Rattle.ledger_merkle.proofs.Levels.{length-leaves_from}
@@ -34,12 +34,13 @@ invariant_of-result g c =
     let many : length new.leaves ≡ length ops = ap length leaves ∙ (length-leaves_from hash start (map spelling ops) ∙ length-map ops spelling) in
     let last : last_floor f ops ≡ Some floor = sym (c.in-Some-floor_of_last.ensures.floor ∙ ap (last_floor f) slice) in
     let index : IsIndex w c.in_ok-index.index start ops =
-    subst (λ z. IsIndex w c.in_ok-index.index start z) slice2 (subst (λ z. IsIndex w c.in_ok-index.index z c.as_slice-2.result.now) c.get-5.ensures.same c.in_ok-index.ensures) in
-    ( ap length pinned ∙ (from.0 ∙ ap count_ones (sym front))
-    , omega arith
-    , many
-    , leaves ∙ ap (λ z. leaves_from hash z (map spelling ops)) (sym front)
-    , last
-    , omega arith
-    , omega arith
-    , subst (λ z. IsIndex w c.in_ok-index.index z ops) (sym front) index )
+    subst (λ z. IsIndex w c.in_ok-index.index start z) slice2 (subst (λ z. IsIndex w c.in_ok-index.index z c.as_slice-2.result.now) c.get-5.ensures.same c.in_ok-index.ensures) in (
+      ap length pinned ∙ (from.0 ∙ ap count_ones (sym front)),
+      omega arith,
+      many,
+      leaves ∙ ap (λ z. leaves_from hash z (map spelling ops)) (sym front),
+      last,
+      omega arith,
+      omega arith,
+      subst (λ z. IsIndex w c.in_ok-index.index z ops) (sym front) index,
+    )

@@ -1,4 +1,4 @@
-use Rattle.std.proofs.Common.{◌≡◌, ℕ, ◌+◌, ◌-◌, ◌≤◌, List, take, drop, map, sym, ap, subst, ◌∙◌, arith}
+use Rattle.std.proofs.Common.{◌≡◌, ◌-◌, ◌≤◌, take, drop, map, sym, ap, subst, ◌∙◌, arith}
 use Rattle.ledger_merkle.specs.Range.{RangeOk}
 use Rattle.ledger_merkle.specs.Leaves.{ListView, leaves_from, root_at}
 use Rattle.ledger_log.specs.View.{LogView}

@@ -1,4 +1,4 @@
-use Rattle.std.proofs.Common.{◌≡◌, ℕ, ◌<◌, ◌≤◌, ap, ◌∙◌, arith}
+use Rattle.std.proofs.Common.{◌≤◌, ap, ◌∙◌, arith}
 use Rattle.ledger_log.specs.View.{log_root, log_size}
 use Rattle.ledger_log.proofs.Logs.{root_below}
 use Rattle.ledger_log.proofs.log.Log.prune.Goals as goal
