@@ -1,0 +1,14 @@
+pub mod TotalLemmas
+pub mod PlanLemmas
+pub mod AccountLemmas
+pub mod TouchesLemmas
+pub mod GreedyLemmas
+pub mod SettleLemmas
+pub mod TakingLemmas
+pub mod SelectLemmas
+pub mod DecideLemmas
+pub mod TakenLemmas
+pub mod VerdictLemmas
+pub mod RegisterLemmas
+pub mod BatchLemmas
+pub mod OrderLemmas

@@ -1,0 +1,13 @@
+pub mod Changes
+pub mod Rules
+pub mod Touches
+pub mod Adds
+pub mod Settling
+pub mod Taking
+pub mod Selecting
+pub mod Accounts
+pub mod AccountProofs
+pub mod Registering
+pub mod Batches
+pub mod Orders
+pub mod Greedy
