@@ -1,5 +1,5 @@
 //! A stream of bytes, cut into frames.
-ghost use Rattle.std.specs.Prelude.{◌≡◌, ◌≤◌, ◌++◌, [], length, drop, OnOk, OnErr};
+ghost use Rattle.std.specs.Prelude.{◌≡◌, ◌≤◌, ◌++◌, [], length, drop, OnOk, OnErr, IfOk, IfSome};
 ghost use Rattle.ledger_codec.specs.Streams.{NextFrame, FramesStay};
 ghost use Rattle.ledger_codec.specs.Frames.{front, FrontAt};
 
@@ -57,6 +57,30 @@ impl Framer {
         self.at = cut_front(&mut self.bytes, self.at);
         self.bytes.extend_from_slice(piece)?;
         Ok(())
+    }
+
+    /// The body of the next whole frame, and how many held bytes it takes with its length.
+    pub fn peek(&self) -> Result<Option<(&[u8], usize)>, FrameError>
+        ensures front { FrontAt (λ x. x.now) result self.now.bytes (front self.now.limit self.now.bytes) }
+        ensures within { IfOk result (λ found. IfSome found (λ x. x.1 ≤ length self.now.bytes)) }
+    {
+        frame_at(self.limit, &self.bytes[self.at..], 0)
+    }
+
+    /// Gives up the first bytes held.
+    pub fn skip(&mut self, count: usize)
+        requires { count ≤ length self.old.bytes }
+        ensures { self.new ≡ record self.old { bytes = drop count self.old.bytes } }
+    {
+        self.at += count;
+    }
+
+    /// Gives up all bytes held.
+    pub fn clear(&mut self)
+        ensures { self.new ≡ record self.old { bytes = [] } }
+    {
+        self.bytes.clear();
+        self.at = 0;
     }
 
     /// The next whole frame's body; None exactly where no whole frame and no bad length is held. A bad

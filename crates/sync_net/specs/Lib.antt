@@ -2,3 +2,8 @@ pub mod Fields
 pub mod Messages
 pub mod Laws
 pub mod Numbered
+pub mod View
+pub mod Asks
+pub mod Asking
+pub mod Codes
+pub mod Wire

@@ -8,13 +8,25 @@
 //! it, whatever follows, and no message's bytes begin another's.
 #![tactic(auto)]
 
+mod ask;
 mod code;
+mod error;
+mod fault;
 mod fields;
+mod generator;
+mod link;
+mod machine;
 mod message;
 mod request;
 mod response;
 
+pub use ask::{Answer, Ask, Pending, Submitted};
 pub use code::ErrorCode;
+pub use error::Error;
+pub use fault::{MachineFault, SubmitRefusal};
+pub use generator::Generator;
+pub use link::{DialFailed, Dialer, Link, LinkError};
+pub use machine::Machine;
 pub use message::Message;
 pub use request::{
     GetCompactStateRequest, GetCompactTargetRequest, GetOperationsRequest, GetSyncTargetRequest,
