@@ -1,0 +1,5 @@
+pub mod Draw
+pub mod Engine
+pub mod Schedule
+pub mod Tracker
+pub mod TrackerView
