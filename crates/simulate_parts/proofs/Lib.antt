@@ -1,1 +1,4 @@
+pub mod Agreement
+pub mod Lookups
 pub mod Observing
+pub mod Starting

@@ -1,5 +1,9 @@
+pub mod Checks
 pub mod Draw
 pub mod Engine
+pub mod Reports
 pub mod Schedule
+pub mod Seats
+pub mod Team
 pub mod Tracker
 pub mod TrackerView

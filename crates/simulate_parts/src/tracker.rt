@@ -3,7 +3,7 @@ ghost use Rattle.std.specs.Prelude.{◌≡◌, ◌≢◌, ◌⊎◌, ◌≤◌, 
 ghost use Rattle.std.specs.List.{list_any};
 ghost use Rattle.std.specs.Option.{option_map_or};
 ghost use Rattle.std.specs.declared.cmp.Ordering.TheVariants.{Greater};
-ghost use Rattle.simulate_parts.specs.Tracker.{AfterRefusal, digests_at, disagrees_at_height, finalized_rounds, fresh, grown_by, kept_at_height, kept_at_round, later_round, observe_fault, observed, raised, round_cmp};
+ghost use Rattle.simulate_parts.specs.Tracker.{AfterRefusal, Agree, digests_at, disagrees_at_height, finalized_rounds, first_fault, fresh, grown_by, kept_at_height, kept_at_round, later_round, observe_fault, observed, raised, round_cmp, tracker_of};
 
 use crate::lists::{copy_bytes, copy_lists};
 use crate::peer::{Peer, Round};
@@ -19,6 +19,20 @@ pub struct FinalizationUpdate {
     pub round: Round,
     pub height: u64,
     pub block_digest: List<u8>,
+}
+
+impl FinalizationUpdate {
+    /// A copy of the report.
+    pub fn copy(&self, alloc: Global) -> Result<Self, OutOfMemory>
+        ensures { IfOk result (λ copy. copy ≡ self.now) }
+    {
+        Ok(FinalizationUpdate {
+            pk: self.pk,
+            round: self.round,
+            height: self.height,
+            block_digest: copy_bytes(alloc, self.block_digest.as_slice())?,
+        })
+    }
 }
 
 /// Why a report is refused. `Height` and `Round` name the place where another digest is kept.
@@ -66,6 +80,36 @@ impl ProgressTracker {
             heights: BTreeMap::new(alloc),
             rounds: BTreeMap::new(alloc),
             validators: BTreeMap::new(alloc),
+        }
+    }
+
+    /// The tracker of these reports, in order, or the first refusal of one. Ok means that no two of them
+    /// name different digests at one height or round.
+    pub fn of(alloc: Global, updates: &[FinalizationUpdate]) -> Result<Self, ObserveFault>
+        ensures ok { IfOk result (λ t. t ≡ tracker_of updates.now) }
+        ensures agree { OnOk result (Agree updates.now) }
+        ensures may { OnOk result (first_fault updates.now ≡ None) }
+        ensures refuses { IfErr result (λ e. (e ≡ ObserveFault.OutOfMemory) ⊎ (first_fault updates.now ≡ Some e)) }
+    {
+        let mut tracker = ProgressTracker::default(alloc);
+        for update in updates {
+            match tracker.observe_copy(update) {
+                Ok(()) => {}
+                Err(fault) => return Err(fault),
+            }
+        }
+        Ok(tracker)
+    }
+
+    /// Takes a copy of a report.
+    fn observe_copy(&mut self, update: &FinalizationUpdate) -> Result<(), ObserveFault>
+        ensures ok { OnOk result (self.new ≡ observed self.old update.now) }
+        ensures may { OnOk result (observe_fault self.old update.now ≡ None) }
+        ensures refuses { IfErr result (λ e. (e ≡ ObserveFault.OutOfMemory) ⊎ (observe_fault self.old update.now ≡ Some e)) }
+    {
+        match update.copy(self.alloc) {
+            Ok(update) => self.observe(update),
+            Err(OutOfMemory) => Err(ObserveFault::OutOfMemory),
         }
     }
 
