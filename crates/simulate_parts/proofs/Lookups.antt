@@ -1,5 +1,5 @@
 -- What a look-up finds after an entry was put into a map's list.
-use Rattle.std.proofs.Common.{◌≡◌, ℕ, ◌<◌, Bool, true, false, cond, List, [], ◌∷◌, Option, Some, None, refl, sym, ap, ◌∙◌, subst, Ordering, arith}
+use Rattle.std.proofs.Common.{◌≡◌, ℕ, ◌<◌, true, false, cond, List, [], ◌∷◌, Some, refl, ap, ◌∙◌, subst, Ordering}
 use Rattle.std.specs.declared.cmp.Ordering.TheVariants.{Less, Equal, Greater}
 use Rattle.std.specs.Ordering.{nat_cmp, is_eq, ordering_then, match_ordering}
 use Rattle.std.specs.Cmp.{nat_cmp_total}
@@ -8,7 +8,6 @@ use Rattle.std.specs.BTreeMap.{insert_entry, is_at}
 use Rattle.std.proofs.lemmas.Cmp.{tied_itself, ranked}
 use Rattle.std.specs.Ordering.{MatchOrdering}
 use Rattle.simulate_parts.specs.Tracker.{round_cmp, peer_cmp}
-use Rattle.simulate_parts.specs.declared.peer.Peer.{Peer}
 use Rattle.simulate_parts.specs.declared.peer.Round.{Round}
 
 -- an order that tells keys apart

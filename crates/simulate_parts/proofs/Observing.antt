@@ -1,5 +1,5 @@
 -- Which refusal a report gets.
-use Rattle.std.proofs.Common.{◌≡◌, Bool, true, false, List, ◌∷◌, Option, Some, None, refl, ap, ◌∙◌}
+use Rattle.std.proofs.Common.{◌≡◌, true, false, List, ◌∷◌, Option, Some, None, refl, ap, ◌∙◌}
 use Rattle.simulate_parts.specs.Tracker.{disagrees_at_height, disagrees_at_round, fault_from, observe_fault, observed, observed_all}
 use Rattle.std.specs.Option.{option_or}
 use Rattle.simulate_parts.specs.TrackerView.{TrackerView}

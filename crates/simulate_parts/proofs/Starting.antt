@@ -18,7 +18,7 @@ told_to start n participants = record {
   restart = n;
   public_key = start.pk;
   participants = participants;
-  fault = start.fault
+  fault = start.fault;
 }
 
 pub made_same : {E : Type 0} (made : InitContext → E → Type 0) (start : Start) (n m : ℕ) (ps qs : List Peer) (engine : E) → n ≡ m → ps ≡ qs → made (told_to start n ps) engine → made (told_to start m qs) engine
@@ -48,7 +48,7 @@ others_then delayed ps i =
 pub starts_more : {D E S : Type 0} (peer_of : D → E → Peer) (made : D → InitContext → E → Type 0) (journal : D → Option (E → List (StepEvent × StepOut))) (fault : FaultConfig) (delayed : List Peer) (d0 d : D) (ps0 ps : List Peer) (i : ℕ) (a b c : List (Peer × Seat D E S)) → ps ≡ ps0 → d ≡ d0 → StartsAll (peer_of d0) (made d0) (journal d0) ps0 fault (others delayed (take i ps0)) a b → StartsAll (peer_of d) (made d) (journal d) ps fault (others delayed (option_to_list (slice_get ps i))) b c → StartsAll (peer_of d0) (made d0) (journal d0) ps0 fault (others delayed (take (i + 1) ps0)) a c
 starts_more peer_of made journal fault delayed d0 d ps0 ps i a b c same_peers same_definition first next =
     let moved : StartsAll (peer_of d0) (made d0) (journal d0) ps0 fault (others delayed (option_to_list (slice_get ps0 i))) b c =
-      subst (λ x. StartsAll (peer_of x) (made x) (journal x) ps0 fault (others delayed (option_to_list (slice_get ps0 i))) b c) same_definition
-        (subst (λ xs. StartsAll (peer_of d) (made d) (journal d) xs fault (others delayed (option_to_list (slice_get xs i))) b c) same_peers next) in
+    subst (λ x. StartsAll (peer_of x) (made x) (journal x) ps0 fault (others delayed (option_to_list (slice_get ps0 i))) b c) same_definition
+    (subst (λ xs. StartsAll (peer_of d) (made d) (journal d) xs fault (others delayed (option_to_list (slice_get xs i))) b c) same_peers next) in
     subst (λ xs. StartsAll (peer_of d0) (made d0) (journal d0) ps0 fault xs a c) (sym (others_then delayed ps0 i))
-      (starts_then (peer_of d0) (made d0) (journal d0) ps0 fault (others delayed (take i ps0)) (others delayed (option_to_list (slice_get ps0 i))) a b c first moved)
+    (starts_then (peer_of d0) (made d0) (journal d0) ps0 fault (others delayed (take i ps0)) (others delayed (option_to_list (slice_get ps0 i))) a b c first moved)

@@ -1,5 +1,5 @@
 -- What checks answer.
-use Rattle.std.specs.Prelude.{◌≡◌, ℕ, Bool, List, Option, Some, None, Result, Ok, Err, ◌+◌, count_by, length, map, filter, nat_le}
+use Rattle.std.specs.Prelude.{◌≡◌, ℕ, Bool, List, Option, Some, None, Result, Ok, Err, count_by, nat_le}
 use Rattle.simulate_parts.specs.declared.check.CheckFault.{CheckFault}
 use Rattle.simulate_parts.specs.declared.check.CheckFault.TheVariants.{Failed, OutOfMemory}
 use Rattle.simulate_parts.specs.declared.engine.StateView.{StateView}

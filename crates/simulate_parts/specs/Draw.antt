@@ -10,5 +10,5 @@ drawn g link =
     let first = pcg32 g in
     let second = pcg32 first.1 in
     if nat_lt (first.0 % link.success.den) link.success.num
-      then (Some (min (link.latency + second.0 % (link.jitter + 1)) (2 ^ 64 - 1)), second.1)
-      else (None, first.1)
+    then (Some (min (link.latency + second.0 % (link.jitter + 1)) (2 ^ 64 - 1)), second.1)
+    else (None, first.1)

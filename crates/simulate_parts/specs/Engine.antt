@@ -1,14 +1,19 @@
 -- What engines are told and give.
-use Rattle.std.specs.Prelude.{◌≡◌, ℕ, Bool, ◌==◌, List, [], ◌∷◌, Option, All, AllPairs, IfSome, IsTrue, map, not}
-use Rattle.std.specs.List.{IsDistinct}
+use Rattle.std.specs.Prelude.{ℕ, Bool, true, ◌==◌, ◌&&◌, List, [], ◌∷◌, Option, IfSome, IsTrue, map, not}
+use Rattle.std.specs.List.{list_any}
 use Rattle.simulate_parts.specs.declared.peer.Peer.{Peer}
 use Rattle.simulate_parts.specs.declared.peer.Round.{Round}
 use Rattle.simulate_parts.specs.declared.engine.StepOut.{StepOut}
 use Rattle.simulate_parts.specs.declared.tracker.FinalizationUpdate.{FinalizationUpdate}
 
+-- whether no two of these peers are equal
+abbrev pub all_distinct : List Peer → Bool
+all_distinct [] = true
+all_distinct (p ∷ ps) = not (list_any (λ q. q.0 == p.0) ps) && all_distinct ps
+
 -- no two of these peers are equal
 abbrev pub DistinctPeers : List Peer → Type 0
-DistinctPeers ps = IsDistinct (λ a b. a.0 == b.0) ps
+DistinctPeers ps = IsTrue (all_distinct ps)
 
 -- an output of nothing
 abbrev pub no_output : StepOut

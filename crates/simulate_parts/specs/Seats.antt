@@ -1,6 +1,5 @@
 -- Which engines run, and what a start, a stop and a step do to them.
-use Rattle.std.specs.Prelude.{◌≡◌, ℕ, ◌+◌, ◌-◌, ◌^◌, ◌==◌, min, Bool, false, List, [], ◌∷◌, ◌++◌, Option, Some, None, All, IfSome, is_some, option_map, option_and_then, unwrap_or, filter_map, position, filter, not, map}
-use Rattle.std.specs.List.{list_any}
+use Rattle.std.specs.Prelude.{◌≡◌, ℕ, ◌+◌, ◌-◌, ◌^◌, ◌==◌, min, Bool, false, List, [], ◌∷◌, ◌++◌, Option, Some, None, All, IfSome, is_some, option_map, option_and_then, filter_map, map}
 use Rattle.std.specs.Option.{option_map_or}
 use Rattle.std.specs.Map.{lookup, set_value}
 use Rattle.std.specs.BTreeMap.{insert_entry, is_at}
@@ -45,7 +44,7 @@ context_of participants start seats = record {
   restart = starts_in (lookup (is_at (peer_cmp start.pk)) seats);
   public_key = start.pk;
   participants = participants;
-  fault = start.fault
+  fault = start.fault;
 }
 
 -- the peer has a new engine, which `init` made of the start's context

@@ -33,7 +33,12 @@ pub trait ExitCondition: Drop {
 
     /// Whether the run ends here, by the reports so far, the states of the running peers in ascending
     /// order of peers, and the number of participants that count.
-    fn reached(&self, tracker: &ProgressTracker, states: &[StateView], target_count: usize) -> Result<bool, CheckFault>
+    fn reached(
+        &self,
+        tracker: &ProgressTracker,
+        states: &[StateView],
+        target_count: usize,
+    ) -> Result<bool, CheckFault>
         ensures { Answers result (exit_verdict self.now tracker.now states.now target_count) };
 }
 

@@ -20,7 +20,12 @@ fn dealing_size(players: usize, coefficient: usize, scalar: usize) -> Option<usi
 /// The greatest payload of a key generation among `n` players: 10 bytes in front of the longer of a
 /// dealing and an acknowledgement, which is a tag and a signature. None exactly where that passes
 /// `usize::MAX`.
-pub fn max_payload_size(n: NonZeroU32, coefficient: usize, scalar: usize, signature: usize) -> Option<usize>
+pub fn max_payload_size(
+    n: NonZeroU32,
+    coefficient: usize,
+    scalar: usize,
+    signature: usize,
+) -> Option<usize>
     ensures { let size = 10 + max (1 + 5 + n.value * coefficient + scalar) (1 + signature) in SomeIff result (size < 2 ^ 64) size }
 {
     let Some(dealing) = dealing_size(n.get() as usize, coefficient, scalar) else {

@@ -29,8 +29,14 @@ pub struct InitContext {
 #[derive(Drop)]
 pub enum StepEvent {
     Started,
-    Timer { at: u64 },
-    Received { from: Peer, channel: u64, bytes: List<u8> },
+    Timer {
+        at: u64,
+    },
+    Received {
+        from: Peer,
+        channel: u64,
+        bytes: List<u8>,
+    },
 }
 
 /// What an engine gives in a step: delays of timers in milliseconds from now, messages to peers on
@@ -63,7 +69,13 @@ impl StepOut {
     }
 
     /// Sends a message. A refused call leaves the output.
-    pub fn send(&mut self, alloc: Global, to: Peer, channel: u64, bytes: List<u8>) -> Result<(), OutOfMemory>
+    pub fn send(
+        &mut self,
+        alloc: Global,
+        to: Peer,
+        channel: u64,
+        bytes: List<u8>,
+    ) -> Result<(), OutOfMemory>
         ensures ok { OnOk result (self.new ≡ record self.old { messages = self.old.messages ++ (to, channel, bytes) ∷ [] }) }
         ensures err { OnErr result (self.new ≡ self.old) }
     {
@@ -71,7 +83,13 @@ impl StepOut {
     }
 
     /// Reports a block as final. A refused call leaves the output.
-    pub fn finalize(&mut self, alloc: Global, round: Round, height: u64, digest: List<u8>) -> Result<(), OutOfMemory>
+    pub fn finalize(
+        &mut self,
+        alloc: Global,
+        round: Round,
+        height: u64,
+        digest: List<u8>,
+    ) -> Result<(), OutOfMemory>
         ensures ok { OnOk result (self.new ≡ record self.old { finalized = self.old.finalized ++ (round, height, digest) ∷ [] }) }
         ensures err { OnErr result (self.new ≡ self.old) }
     {
@@ -138,6 +156,7 @@ pub struct StateView {
 /// is the list of the events that it was stepped with and of what it gave.
 pub trait EngineDefinition: Drop {
     type Engine: Drop;
+
     type State: ProcessedHeight;
 
     ghost peer_of: { Self → Self.Engine → Peer };
@@ -159,13 +178,24 @@ pub trait EngineDefinition: Drop {
     fn max_message_size(&self) -> u32;
 
     /// Makes an engine and its state.
-    fn init(&self, alloc: Global, context: &InitContext) -> Result<(Self::Engine, Self::State), OutOfMemory>
+    fn init(
+        &self,
+        alloc: Global,
+        context: &InitContext,
+    ) -> Result<(Self::Engine, Self::State), OutOfMemory>
         ensures peer { IfOk result (λ pair. peer_of self.now pair.0 ≡ context.now.public_key) }
         ensures made_of { IfOk result (λ pair. made self.now context.now pair.0) }
         ensures told { IfOk result (λ pair. IfSome (journal self.now) (λ told. told pair.0 ≡ [])) };
 
     /// Steps an engine with an event. What it gives goes into `out`.
-    fn step(&self, alloc: Global, engine: &mut Self::Engine, state: &mut Self::State, event: &StepEvent, out: &mut StepOut) -> Result<(), OutOfMemory>
+    fn step(
+        &self,
+        alloc: Global,
+        engine: &mut Self::Engine,
+        state: &mut Self::State,
+        event: &StepEvent,
+        out: &mut StepOut,
+    ) -> Result<(), OutOfMemory>
         requires { out.old ≡ no_output }
         ensures peer { peer_of self.now engine.new ≡ peer_of self.now engine.old }
         ensures passes { OnOk result (All (Passes (reports self.now)) (updates_of (peer_of self.now engine.old) out.new.finalized)) }

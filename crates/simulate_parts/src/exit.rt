@@ -39,7 +39,12 @@ impl ExitCondition for MinimumFinalizations {
         "minimum_finalizations"
     }
 
-    fn reached(&self, tracker: &ProgressTracker, _states: &[StateView], target_count: usize) -> Result<bool, CheckFault> {
+    fn reached(
+        &self,
+        tracker: &ProgressTracker,
+        _states: &[StateView],
+        target_count: usize,
+    ) -> Result<bool, CheckFault> {
         Ok(tracker.all_reached(target_count, self.required))
     }
 }
@@ -80,7 +85,12 @@ impl ExitCondition for ProcessedHeightAtLeast {
         true
     }
 
-    fn reached(&self, _tracker: &ProgressTracker, states: &[StateView], target_count: usize) -> Result<bool, CheckFault> {
+    fn reached(
+        &self,
+        _tracker: &ProgressTracker,
+        states: &[StateView],
+        target_count: usize,
+    ) -> Result<bool, CheckFault> {
         let required = self.required;
         let count = states
             .iter()

@@ -13,8 +13,14 @@ use std::mem;
 /// What an engine reports: the tip of its chain, or a block.
 #[derive(Debug, Drop)]
 pub enum Activity {
-    Tip { round: Round, height: u64, digest: List<u8> },
-    Block { height: u64 },
+    Tip {
+        round: Round,
+        height: u64,
+        digest: List<u8>,
+    },
+    Block {
+        height: u64,
+    },
 }
 
 /// A listener. It may tell contracts the list of the activities that it was given.
@@ -57,7 +63,12 @@ impl MonitorReporter {
         ensures passed { OnOk result (IfSome (told (inner_reporter self.old)) (λ before. IfSome (told (inner_reporter self.new)) (λ after. after ≡ before ++ activity ∷ []))) }
         ensures refused { OnErr result ((kept_updates self.new ≡ kept_updates self.old) × (inner_reporter self.new ≡ inner_reporter self.old)) }
     {
-        if let Activity::Tip { round, height, digest } = &activity {
+        if let Activity::Tip {
+            round,
+            height,
+            digest,
+        } = &activity
+        {
             let update = FinalizationUpdate {
                 pk: self.pk,
                 round: *round,

@@ -16,11 +16,7 @@ pub enum Action {
     /// Sets every link.
     Heal(SimLink),
     /// Sets one directed link; nothing where the two peers are equal or unknown.
-    UpdateLink {
-        from: Peer,
-        to: Peer,
-        link: SimLink,
-    },
+    UpdateLink { from: Peer, to: Peer, link: SimLink },
     /// Stops a peer; nothing where it is no participant or doesn't run.
     Crash(Peer),
     /// Starts a participant anew, also where it runs.
@@ -89,7 +85,10 @@ pub enum Crash {
         count: usize,
     },
     /// Starts these participants only once a finalized round reaches `round`.
-    DelayRound { participants: List<Peer>, round: Round },
+    DelayRound {
+        participants: List<Peer>,
+        round: Round,
+    },
     /// Stops `participant` for `downtime` once its height is in the window from `first` to `last`.
     ProcessedHeight {
         participant: Peer,

@@ -3,7 +3,9 @@ ghost use Rattle.std.specs.Prelude.{◌≡◌, IfOk, IsSome, None, Ok, OnErr, On
 ghost use Rattle.simulate_parts.specs.Engine.{no_output};
 ghost use Rattle.simulate_parts.specs.Seats.{Starts, Steps, StepsSeat, active_peers, active_views, key_of, runs, runs_since, starts_in, stopped, view_of};
 
-use crate::engine::{EngineDefinition, InitContext, ProcessedHeight, StateView, StepEvent, StepOut};
+use crate::engine::{
+    EngineDefinition, InitContext, ProcessedHeight, StateView, StepEvent, StepOut,
+};
 use crate::link::FaultConfig;
 use crate::lists::copy_items;
 use crate::peer::Peer;
@@ -41,7 +43,13 @@ pub struct Start {
 }
 
 /// Makes an engine for a peer, in place of the one that it had. A refused call leaves the seats.
-pub fn start_engine<D: EngineDefinition>(alloc: Global, definition: &D, participants: &[Peer], seats: &mut Seats<D>, start: Start) -> Result<(), OutOfMemory>
+pub fn start_engine<D: EngineDefinition>(
+    alloc: Global,
+    definition: &D,
+    participants: &[Peer],
+    seats: &mut Seats<D>,
+    start: Start,
+) -> Result<(), OutOfMemory>
     ensures ok { OnOk result (Starts (D.peer_of definition.now) (D.made definition.now) (D.journal definition.now) participants.now start seats.old.entries seats.new.entries) }
     ensures err { OnErr result (seats.new.entries ≡ seats.old.entries) }
 {
@@ -122,7 +130,14 @@ pub fn is_current<D: EngineDefinition>(seats: &Seats<D>, pk: &Peer, birth: u64) 
 }
 
 /// Steps a peer's engine with an event, where it runs, and says whether it does.
-pub fn step_engine<D: EngineDefinition>(alloc: Global, definition: &D, seats: &mut Seats<D>, pk: &Peer, event: &StepEvent, out: &mut StepOut) -> Result<bool, OutOfMemory>
+pub fn step_engine<D: EngineDefinition>(
+    alloc: Global,
+    definition: &D,
+    seats: &mut Seats<D>,
+    pk: &Peer,
+    event: &StepEvent,
+    out: &mut StepOut,
+) -> Result<bool, OutOfMemory>
     requires { out.old ≡ no_output }
     ensures ran { IfOk result (λ ran. ran ≡ runs seats.old.entries pk.now) }
     ensures stepped { result ≡ Ok true → Steps (D.peer_of definition.now) (D.journal definition.now) (D.reports definition.now) pk.now event.now out.new seats.old.entries seats.new.entries }
@@ -141,7 +156,13 @@ pub fn step_engine<D: EngineDefinition>(alloc: Global, definition: &D, seats: &m
 }
 
 /// Steps the engine of a seat with an event.
-fn step_seat<D: EngineDefinition>(alloc: Global, definition: &D, seat: &mut Seat<D>, event: &StepEvent, out: &mut StepOut) -> Result<(), OutOfMemory>
+fn step_seat<D: EngineDefinition>(
+    alloc: Global,
+    definition: &D,
+    seat: &mut Seat<D>,
+    event: &StepEvent,
+    out: &mut StepOut,
+) -> Result<(), OutOfMemory>
     requires empty { out.old ≡ no_output }
     requires runs { IsSome seat.old.running }
     ensures { OnOk result (StepsSeat (D.peer_of definition.now) (D.journal definition.now) (D.reports definition.now) event.now out.new seat.old seat.new) }
@@ -166,15 +187,24 @@ fn running_peer<D: EngineDefinition>(peer: &Peer, seat: &Seat<D>) -> Option<Peer
 }
 
 /// The peers that run, in ascending order.
-pub fn active_keys<D: EngineDefinition>(alloc: Global, seats: &Seats<D>) -> Result<Vec<Peer>, OutOfMemory>
+pub fn active_keys<D: EngineDefinition>(
+    alloc: Global,
+    seats: &Seats<D>,
+) -> Result<Vec<Peer>, OutOfMemory>
     ensures { IfOk result (λ keys. keys.items ≡ active_peers seats.now.entries) }
 {
-    let keys = seats.iter().filter_map(|(peer, seat)| running_peer(peer, seat)).collect(alloc)?;
+    let keys = seats
+        .iter()
+        .filter_map(|(peer, seat)| running_peer(peer, seat))
+        .collect(alloc)?;
     Ok(keys)
 }
 
 /// How checks see the state of a seat's engine, where it runs.
-fn view<D: EngineDefinition>(alloc: Global, seat: &Seat<D>) -> Result<Option<StateView>, OutOfMemory>
+fn view<D: EngineDefinition>(
+    alloc: Global,
+    seat: &Seat<D>,
+) -> Result<Option<StateView>, OutOfMemory>
     ensures { IfOk result (λ v. v ≡ view_of D.State.height_of D.State.bytes_of seat.now) }
 {
     match &seat.running {
@@ -187,7 +217,10 @@ fn view<D: EngineDefinition>(alloc: Global, seat: &Seat<D>) -> Result<Option<Sta
 }
 
 /// How checks see the states of the engines that run, in ascending order of peers.
-pub fn active_states<D: EngineDefinition>(alloc: Global, seats: &Seats<D>) -> Result<Vec<StateView>, OutOfMemory>
+pub fn active_states<D: EngineDefinition>(
+    alloc: Global,
+    seats: &Seats<D>,
+) -> Result<Vec<StateView>, OutOfMemory>
     ensures { IfOk result (λ views. views.items ≡ active_views D.State.height_of D.State.bytes_of seats.now.entries) }
 {
     let mut views = Vec::new(alloc);

@@ -46,7 +46,12 @@ impl<D: EngineDefinition> Team<D> {
 
     /// Starts a participant's engine, in place of the one that it had, and counts the start. A refused
     /// call leaves the team.
-    pub fn start_one(&mut self, pk: &Peer, delayed: bool, fault: FaultConfig) -> Result<(), OutOfMemory>
+    pub fn start_one(
+        &mut self,
+        pk: &Peer,
+        delayed: bool,
+        fault: FaultConfig,
+    ) -> Result<(), OutOfMemory>
         requires { Contains (participants_of self.old) pk.now }
         ensures ok { OnOk result (Starts (D.peer_of (definition_of self.old)) (D.made (definition_of self.old)) (D.journal (definition_of self.old)) (participants_of self.old) (start_of (participants_of self.old) delayed fault pk.now) (seats_of self.old) (seats_of self.new)) }
         ensures err { OnErr result (seats_of self.new ≡ seats_of self.old) }
@@ -60,11 +65,22 @@ impl<D: EngineDefinition> Team<D> {
             fault,
             birth: 0,
         };
-        start_engine(self.alloc, &self.definition, self.participants.as_slice(), &mut self.seats, start)
+        start_engine(
+            self.alloc,
+            &self.definition,
+            self.participants.as_slice(),
+            &mut self.seats,
+            start,
+        )
     }
 
     /// Starts a participant's engine anew, as `start_one` does.
-    pub fn restart(&mut self, pk: &Peer, delayed: bool, fault: FaultConfig) -> Result<(), OutOfMemory>
+    pub fn restart(
+        &mut self,
+        pk: &Peer,
+        delayed: bool,
+        fault: FaultConfig,
+    ) -> Result<(), OutOfMemory>
         requires { Contains (participants_of self.old) pk.now }
         ensures ok { OnOk result (Starts (D.peer_of (definition_of self.old)) (D.made (definition_of self.old)) (D.journal (definition_of self.old)) (participants_of self.old) (start_of (participants_of self.old) delayed fault pk.now) (seats_of self.old) (seats_of self.new)) }
         ensures err { OnErr result (seats_of self.new ≡ seats_of self.old) }
@@ -92,7 +108,12 @@ impl<D: EngineDefinition> Team<D> {
     }
 
     /// Starts the participant at this place, where it isn't delayed.
-    fn start_at(&mut self, i: usize, delayed: &[Peer], fault: FaultConfig) -> Result<(), OutOfMemory>
+    fn start_at(
+        &mut self,
+        i: usize,
+        delayed: &[Peer],
+        fault: FaultConfig,
+    ) -> Result<(), OutOfMemory>
         requires { i < length (participants_of self.old) }
         ensures ok { OnOk result (StartsAll (D.peer_of (definition_of self.old)) (D.made (definition_of self.old)) (D.journal (definition_of self.old)) (participants_of self.old) fault (others delayed.now (option_to_list (slice_get (participants_of self.old) i))) (seats_of self.old) (seats_of self.new)) }
         ensures err { OnErr result (seats_of self.new ≡ seats_of self.old) }

@@ -101,8 +101,8 @@ impl ProgressTracker {
         Ok(tracker)
     }
 
-    /// Takes a copy of a report.
-    fn observe_copy(&mut self, update: &FinalizationUpdate) -> Result<(), ObserveFault>
+    /// Takes a copy of a report, as `observe` takes a report.
+    pub fn observe_copy(&mut self, update: &FinalizationUpdate) -> Result<(), ObserveFault>
         ensures ok { OnOk result (self.new ≡ observed self.old update.now) }
         ensures may { OnOk result (observe_fault self.old update.now ≡ None) }
         ensures refuses { IfErr result (λ e. (e ≡ ObserveFault.OutOfMemory) ⊎ (observe_fault self.old update.now ≡ Some e)) }
@@ -215,7 +215,12 @@ fn has_other(digests: &[List<u8>], digest: &[u8]) -> bool
 }
 
 /// Keeps a digest at a height where none is.
-fn keep_at_height(alloc: Global, heights: &mut BTreeMap<u64, List<u8>>, height: u64, digest: &[u8]) -> Result<(), OutOfMemory>
+fn keep_at_height(
+    alloc: Global,
+    heights: &mut BTreeMap<u64, List<u8>>,
+    height: u64,
+    digest: &[u8],
+) -> Result<(), OutOfMemory>
     ensures ok { OnOk result (heights.new.entries ≡ kept_at_height heights.old.entries height digest.now) }
     ensures err { OnErr result (heights.new.entries ≡ heights.old.entries) }
 {
@@ -235,7 +240,11 @@ fn has(digests: &[List<u8>], digest: &[u8]) -> bool
 }
 
 /// These digests with this one at the end, None where it is among them.
-fn grown(alloc: Global, digests: &[List<u8>], digest: &[u8]) -> Result<Option<List<List<u8>>>, OutOfMemory>
+fn grown(
+    alloc: Global,
+    digests: &[List<u8>],
+    digest: &[u8],
+) -> Result<Option<List<List<u8>>>, OutOfMemory>
     ensures { IfOk result (λ o. o ≡ grown_by digests.now digest.now) }
 {
     if has(digests, digest) {
@@ -247,7 +256,12 @@ fn grown(alloc: Global, digests: &[List<u8>], digest: &[u8]) -> Result<Option<Li
 }
 
 /// Keeps a digest among those at a round.
-fn keep_at_round(alloc: Global, rounds: &mut BTreeMap<Round, List<List<u8>>>, round: Round, digest: &[u8]) -> Result<(), OutOfMemory>
+fn keep_at_round(
+    alloc: Global,
+    rounds: &mut BTreeMap<Round, List<List<u8>>>,
+    round: Round,
+    digest: &[u8],
+) -> Result<(), OutOfMemory>
     ensures ok { OnOk result (rounds.new.entries ≡ kept_at_round rounds.old.entries round digest.now) }
     ensures err { OnErr result (rounds.new.entries ≡ rounds.old.entries) }
 {
@@ -261,7 +275,11 @@ fn keep_at_round(alloc: Global, rounds: &mut BTreeMap<Round, List<List<u8>>>, ro
 }
 
 /// Sets a validator's round where that is no step back.
-fn raise(validators: &mut BTreeMap<Peer, Round>, peer: Peer, round: Round) -> Result<(), OutOfMemory>
+fn raise(
+    validators: &mut BTreeMap<Peer, Round>,
+    peer: Peer,
+    round: Round,
+) -> Result<(), OutOfMemory>
     ensures ok { OnOk result (validators.new.entries ≡ raised validators.old.entries peer round) }
     ensures err { OnErr result (validators.new.entries ≡ validators.old.entries) }
 {

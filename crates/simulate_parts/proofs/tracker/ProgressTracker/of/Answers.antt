@@ -7,5 +7,5 @@ use Rattle.simulate_parts.proofs.tracker.ProgressTracker.of.Goals as goal
 pub returns-clause-agree : goal.returns-clause-agree
 returns-clause-agree c =
     let none : first_fault c.args.updates.now ≡ None =
-      c.loop-update.invariant.faults ∙ ap (fault_from c.loop-update.tracker) (drop_all _ c.args.updates.now c.loop-update-test.false) in
+    c.loop-update.invariant.faults ∙ ap (fault_from c.loop-update.tracker) (drop_all _ c.args.updates.now c.loop-update-test.false) in
     agree_of c.args.updates.now none
