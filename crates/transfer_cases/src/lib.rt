@@ -1,0 +1,20 @@
+//! Worked cases of settling, and the plain settling that a selection is compared with.
+//!
+//! ```text
+//!  payments ─▶ play (a selection) ─▶ verdicts ─┐
+//!           └▶ verdicts_anew      ─▶ verdicts ─┴─ the same
+//! ```
+#![tactic(auto)]
+
+mod anew;
+mod cases;
+mod five;
+mod stated;
+
+pub use anew::{Payment, verdicts_anew};
+pub use cases::{Played, Unmet, body, play};
+pub use five::Five;
+pub use stated::Stated;
+
+#[cfg(test)]
+mod tests;
