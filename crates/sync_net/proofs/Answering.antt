@@ -1,6 +1,6 @@
 -- What a frame does to a machine.
-use Rattle.std.proofs.Common.{◌≡◌, ℕ, Bool, true, false, cond, List, drop, Option, Some, None, Ok, Err, refl, sym, ap, subst, ◌∙◌, Result}
-use Rattle.std.specs.Prelude.{◌==◌, position, remove}
+use Rattle.std.proofs.Common.{◌≡◌, ◌<◌, ◌≤◌, ◌+◌, length, arith, ℕ, Bool, true, false, cond, List, drop, Option, Some, None, Ok, Err, refl, sym, ap, subst, ◌∙◌, Result}
+use Rattle.std.specs.Prelude.{◌==◌, position, remove, option_and_then, slice_get}
 use Rattle.ledger_codec.specs.declared.fault.CodecError.{CodecError}
 use Rattle.ledger_codec.specs.declared.fault.CodecError.TheVariants as codec
 use Rattle.ledger_codec.specs.Parsing.{Parsed, Fails}
@@ -18,6 +18,8 @@ use Rattle.sync_net.specs.Messages.{message_at}
 use Rattle.sync_net.specs.Numbered.{number_of}
 use Rattle.sync_net.specs.View.{MachineView}
 use Rattle.sync_net.specs.Asks.{is_response_to, fault_in, refusal_in, pending_in, pending_after, answer_to, replied_to, without_at}
+use Rattle.sync_net.specs.Pendings.{named, AreNumbered, IsGone}
+use Rattle.sync_net.proofs.Pendings.{is_first, counts, no_place, taken_away}
 use Rattle.sync_net.specs.Asking.{Answers, Stops, stopped}
 
 -- an answer is refused by these alone
@@ -43,7 +45,7 @@ either_so false a e h = h
 
 never_else : {Op : Type 0} (m : Message Op) (o : Option Pending) → refused_so (answer_to m o)
 never_else m None = tt
-never_else m (Some p) = either_so (is_response_to p.ask m) (answers.Reply p.number p.ask m) (fault_in p.number (refusal_in m)) (refused_else p.number (refusal_in m))
+never_else m (Some p) = either_so (is_response_to p.ask m) (answers.Reply (number_of m) p.ask m) (fault_in (number_of m) (refusal_in m)) (refused_else (number_of m) (refusal_in m))
 
 stops : {Op : Type 0} (op : List ℕ → Parsed Op) (fault : MachineFault) (old now : MachineView) → Refusal fault → Stops Op op fault old now → Answers op (Err fault) old now
 stops op faults.InvalidResponse old now r h = absurd r
@@ -98,14 +100,30 @@ unread {Op} op v last next pending frames count closed body e is unclosed limit 
     let f : front 10485760 frames.bytes ≡ Whole body (drop count frames.bytes) = ap (λ (l : ℕ). front l frames.bytes) (sym limit) ∙ fr in
     subst (λ (w : MachineView). Answers op (Err faults.InvalidResponse) w last) is (body, drop count frames.bytes, e, unclosed, f, exact e (all_of (message_at op) body) ne fails, ends ∙ ap stopped (sym is))
 
-kept : {Op : Type 0} (b : Bool) (p : Pending) (m : Message Op) (answer : Answer Op) (e : MachineFault) → cond b (Ok (answers.Reply p.number p.ask m)) (Err e) ≡ Ok answer → answers.Reply p.number p.ask m ≡ answer
+kept : {Op : Type 0} (b : Bool) (p : Pending) (m : Message Op) (answer : Answer Op) (e : MachineFault) → cond b (Ok (answers.Reply (number_of m) p.ask m)) (Err e) ≡ Ok answer → answers.Reply (number_of m) p.ask m ≡ answer
 kept true p m answer e h = cc
 kept false p m answer e h = absurd cc
 
 -- a reply takes the pending ask at this place
-pub taken : {Op : Type 0} (m : Message Op) (pending now : List Pending) (p : Pending) (place : ℕ) (answer : Answer Op) → pending_in (number_of m) pending ≡ Some p → position (λ q. q.number == number_of m) pending ≡ Some place → replied_to p m ≡ Ok answer → now ≡ remove pending place
+pub taken : {Op : Type 0} (m : Message Op) (pending now : List Pending) (p : Pending) (place : ℕ) (answer : Answer Op) → pending_in (number_of m) pending ≡ Some p → position (λ q. q.number == number_of m) pending ≡ Some place → replied_to (number_of m) p.ask m ≡ Ok answer → now ≡ remove pending place
     → (answer_to m (pending_in (number_of m) pending) ≡ Ok answer) × (now ≡ pending_after m answer pending)
 taken {Op} m pending now p place answer found at replied left =
-    let is : answers.Reply p.number p.ask m ≡ answer = kept (is_response_to p.ask m) p m answer (fault_in p.number (refusal_in m)) replied in
+    let is : answers.Reply (number_of m) p.ask m ≡ answer = kept (is_response_to p.ask m) p m answer (fault_in (number_of m) (refusal_in m)) replied in
     let after : pending_after m answer pending ≡ remove pending place = ap (λ (a : Answer Op). pending_after m a pending) (sym is) ∙ ap (λ (o : Option ℕ). without_at o pending) at in
     (ap (answer_to m) found ∙ replied, left ∙ sym after)
+
+-- and nothing is pending under its number then
+pub kept_apart : {Op : Type 0} (next : Option ℕ) (m : Message Op) (pending now : List Pending) (p : Pending) (place : ℕ) (answer : Answer Op) → position (λ q. q.number == number_of m) pending ≡ Some place → replied_to (number_of m) p.ask m ≡ Ok answer → now ≡ remove pending place
+    → AreNumbered next pending → AreNumbered next now × IsGone answer now
+kept_apart {Op} next m pending now p place answer at replied left old =
+    let n = number_of m in
+    let first = is_first n pending place at in
+    let within : place < length pending = subst (λ (i : ℕ). i < length pending) first.1 first.0 in
+    let one : named n (remove pending place) + 1 ≡ named n pending = subst (λ (i : ℕ). named n (remove pending i) + 1 ≡ named n pending) first.1 (counts n pending p first.0) in
+    let once : named n pending ≤ 1 = old.once n in
+    let none : named n (remove pending place) ≡ 0 = omega arith in
+    let gone : pending_in n (remove pending place) ≡ None = ap (λ (o : Option ℕ). option_and_then (λ i. slice_get (remove pending place) i) o) (no_place n (remove pending place) none) in
+    let is : answers.Reply n p.ask m ≡ answer = kept (is_response_to p.ask m) p m answer (fault_in n (refusal_in m)) replied in
+    let after : AreNumbered next (remove pending place) × IsGone answer (remove pending place) =
+    (taken_away next pending place p within old, subst (λ (a : Answer Op). IsGone a (remove pending place)) is gone) in
+    subst (λ (ps : List Pending). AreNumbered next ps × IsGone answer ps) (sym left) after

@@ -97,12 +97,12 @@ fault_in number (Some refusal) = faults.Server refusal.error_code refusal.messag
 fault_in number None = faults.UnexpectedResponse number
 
 -- a message of the ask's response kind is a reply
-abbrev pub replied_to : {Op : Type 0} → Pending → Message Op → Result (Answer Op) MachineFault
-replied_to p m = if is_response_to p.ask m then Ok (answers.Reply p.number p.ask m) else Err (fault_in p.number (refusal_in m))
+abbrev pub replied_to : {Op : Type 0} → ℕ → Ask → Message Op → Result (Answer Op) MachineFault
+replied_to number ask m = if is_response_to ask m then Ok (answers.Reply number ask m) else Err (fault_in number (refusal_in m))
 
 -- the answer that a message is to the pending ask of its number, a stray where there is none
 abbrev pub answer_to : {Op : Type 0} → Message Op → Option Pending → Result (Answer Op) MachineFault
-answer_to m (Some p) = replied_to p m
+answer_to m (Some p) = replied_to (number_of m) p.ask m
 answer_to m None = Ok (answers.Stray (number_of m))
 
 -- the asks that are pending after a message was answered: a reply takes the first of its number

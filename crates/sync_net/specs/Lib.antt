@@ -7,3 +7,4 @@ pub mod Asks
 pub mod Asking
 pub mod Codes
 pub mod Wire
+pub mod Pendings

@@ -1,9 +1,11 @@
 //! The request machine.
-ghost use Rattle.std.specs.Prelude.{◌≡◌, ◌++◌, ◌<◌, [], IfOk, IfSome, OnOk, OnErr, false, position, ◌==◌, option_map, length, drop};
+ghost use Rattle.std.specs.declared.option.Option.{Option};
+ghost use Rattle.std.specs.Prelude.{ℕ, ◌≡◌, ◌++◌, ◌<◌, [], IfOk, IfSome, OnOk, OnErr, false, position, ◌==◌, option_map, length, drop};
 ghost use Rattle.ledger_codec.specs.Sequences.{string_written};
 ghost use Rattle.sync_net.specs.Numbered.{number_of};
 ghost use Rattle.sync_net.specs.Asks.{pending_in, is_response_to, refusal_in, fault_in, replied_to};
 ghost use Rattle.sync_net.specs.Asking.{Submits, Feeds, Ends, Answers, Replies, ask_frame, stopped};
+ghost use Rattle.sync_net.specs.Pendings.{AreNumbered, Keeps, IsGone};
 ghost use Rattle.sync_net.specs.declared.ask.Ask.TheVariants.{Operations, SyncTarget, CompactTarget as AskCompactTarget, CompactState};
 
 use crate::ask::{Answer, Ask, Pending, Submitted};
@@ -32,14 +34,14 @@ pub struct Machine<Op> {
 }
 
 impl<Op> Model for Machine<Op> {
-    ghost use Rattle.std.specs.Prelude.{◌≡◌};
     ghost use Rattle.sync_net.specs.View.{MachineView};
+    ghost use Rattle.sync_net.specs.Pendings.{IsReady};
 
     ghost Value = { MachineView };
 
     ghost view = { λ m. record { next = m.numbers; pending = m.pending.items; held = m.frames.bytes; closed = m.closed } };
 
-    ghost invariant = { λ m. m.frames.limit ≡ 10485760 };
+    ghost invariant = { λ m. IsReady m.frames.limit m.numbers m.pending.items };
 }
 
 impl<Op: Spell> Machine<Op> {
@@ -136,7 +138,8 @@ impl<Op: Spell> Machine<Op> {
 
     /// Handles the next whole frame; None exactly where none and no bad length is held.
     pub fn next_answer(&mut self) -> Result<Option<Answer<Op>>, MachineFault>
-        ensures { Answers Op.reading result self.old self.new }
+        ensures answers { Answers Op.reading result self.old self.new }
+        ensures once { IfOk result (λ found. IfSome found (λ answer. IsGone answer self.new.pending)) }
     {
         if self.closed {
             return Err(MachineFault::Closed);
@@ -259,21 +262,22 @@ fn fault_of<Op: Drop>(number: u64, message: Message<Op>) -> MachineFault
 
 /// The answer that a message is to a pending ask, where it is known whether it is of its response kind.
 fn replied<Op: Drop>(
-    found: Pending,
+    number: u64,
+    ask: Ask,
     fits: bool,
     message: Message<Op>,
 ) -> Result<Answer<Op>, MachineFault>
-    requires { fits ≡ is_response_to found.ask message }
-    ensures { result ≡ replied_to found message }
+    requires { fits ≡ is_response_to ask message }
+    ensures { result ≡ replied_to number ask message }
 {
     if fits {
         Ok(Answer::Reply {
-            number: found.number,
-            ask: found.ask,
+            number,
+            ask,
             message,
         })
     } else {
-        Err(fault_of(found.number, message))
+        Err(fault_of(number, message))
     }
 }
 
@@ -282,14 +286,15 @@ fn answer_to<Op: Drop>(
     pending: &mut Vec<Pending>,
     message: Message<Op>,
 ) -> Result<Answer<Op>, MachineFault>
-    ensures { Replies result message pending.old.items pending.new.items }
+    ensures replies { Replies result message pending.old.items pending.new.items }
+    ensures once { (next : Option ℕ) → AreNumbered next pending.old.items → Keeps next result pending.new.items }
 {
     let number = message.request_id();
     match pending_of(pending, number) {
         None => Ok(Answer::Stray { number }),
         Some((place, found)) => {
             let fits = is_response(&found.ask, &message);
-            let answer = replied(found, fits, message)?;
+            let answer = replied(number, found.ask, fits, message)?;
             let _taken = pending.remove(place);
             Ok(answer)
         }
