@@ -3,3 +3,4 @@ pub mod Keys
 pub mod Lines
 pub mod Jobs
 pub mod Gathered
+pub mod Payments

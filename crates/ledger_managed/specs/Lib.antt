@@ -1,0 +1,3 @@
+pub mod Values
+pub mod Spelled
+pub mod SpelledProofs

@@ -1,0 +1,5 @@
+pub mod Causes
+pub mod Fronts
+pub mod Names
+pub mod Lines
+pub mod Locals

@@ -1,0 +1,7 @@
+pub mod ErrorLines
+pub mod Faults
+pub mod Reading
+pub mod Run
+pub mod Served
+pub mod Text
+pub mod Writing

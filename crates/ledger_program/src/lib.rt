@@ -1,0 +1,27 @@
+//! The program as calls over what they are given: words, a job to read, and a sink to write to.
+//!
+//! ```text
+//!   words, job --read_job--> Job --served--> Log --settle_log--> Report --report_text--> sink
+//!                 |                             |
+//!                 +------- RunFault ------------+--error_line--> sink
+//! ```
+//!
+//! What a run answers is said by the contract of [`run`], over the definitions of `specs/Run.antt`: the
+//! report is that of the job's blocks over the log that the job serves, and each fault has its cause. The
+//! job, the printed report and the error lines are described in docs/FORMATS.md.
+#![tactic(auto)]
+
+mod error_line;
+mod fault;
+mod key_text;
+mod local;
+mod outcome;
+mod program;
+mod reading;
+mod report_text;
+mod served;
+mod writing;
+
+pub use fault::Fault;
+pub use outcome::{Outcome, RunFault};
+pub use program::run;

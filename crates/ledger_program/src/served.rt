@@ -1,0 +1,60 @@
+//! The log that a job serves.
+ghost use Rattle.std.specs.Prelude.{◌≡◌, [], IfOk, OnOk};
+ghost use Rattle.ledger_program.specs.Served.{update_of, served, IsServedList, IsLongOrMemory};
+ghost use Rattle.ledger_settling.specs.Reports.{IsWhole};
+
+use ledger_codec::OutOfMemory;
+use ledger_job::Open;
+use ledger_log::{AnyFamily, AnyOp, Log, LogFault};
+use ledger_managed::AccountValue;
+use ledger_merkle::{Location, Sha256Hasher};
+use ledger_transfers::Sequenced;
+use std::alloc::{AllocError, Global};
+
+/// What an account that is opened writes.
+fn update(account: &Open) -> AnyOp
+    ensures { result ≡ update_of account.now }
+{
+    let balance = account.balance;
+    let nonce = account.nonce;
+    AnyOp::Update(account.key, Sequenced { balance, nonce }.to_value())
+}
+
+/// The operations of the log that a job serves: a commit, one Update an `open` line, and a commit.
+#[tactic(auto, unfolding(crate::specs::Served::served))]
+pub(crate) fn served(alloc: Global, accounts: &[Open]) -> Result<Vec<AnyOp>, AllocError>
+    ensures { IfOk result (λ v. v.items ≡ served accounts.now) }
+{
+    let mut ops = Vec::new(alloc);
+    ops.push(AnyOp::CommitFloor(None, Location::ZERO))?;
+    'opens: for account in accounts {
+        ops.push(update(account))?;
+    }
+    ops.push(AnyOp::CommitFloor(None, Location::ZERO))?;
+    Ok(ops)
+}
+
+/// The log of these operations, which a job serves.
+pub(crate) fn open_served(
+    alloc: Global,
+    ops: Vec<AnyOp>,
+) -> Result<Log<AnyFamily, Sha256Hasher>, OutOfMemory>
+    requires { IsServedList ops.items }
+    ensures log { IfOk result (λ log. log ≡ record { front = 0; pinned = []; ops = ops.items }) }
+    ensures whole { OnOk result (IsWhole 0 ops.items) }
+{
+    match Log::from_parts(alloc, Vec::new(alloc), Location::ZERO, ops) {
+        Ok(log) => {
+            let _floor = log.floor();
+            Ok(log)
+        }
+        Err(fault) => Err(wanting(fault)),
+    }
+}
+
+/// Want of memory: a served log has no other fault but to be too long, which no memory holds.
+fn wanting(_fault: LogFault) -> OutOfMemory
+    requires { IsLongOrMemory _fault }
+{
+    OutOfMemory
+}

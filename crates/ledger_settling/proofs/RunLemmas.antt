@@ -1,0 +1,65 @@
+-- One block more.
+use Rattle.std.proofs.Common.{◌≡◌, ℕ, ◌+◌, ◌^◌, ◌<◌, List, [], ◌∷◌, ◌++◌, length, take, slice_get, Some, All, refl, sym, ap, subst}
+use Rattle.ledger_log.specs.View.{LogView, log_root}
+use Rattle.ledger_log.specs.Any.{any_spelling}
+use Rattle.ledger_merkle.specs.Tree.{root, grow, part_root}
+use Rattle.sha2.specs.Sha256.{sha256}
+use Rattle.std.proofs.Common.{map, ◌∙◌}
+use Rattle.std.proofs.lemmas.List.{length-map}
+use Rattle.ledger_settling.specs.Faults.{RunFails}
+use Rattle.ledger_settling.specs.Slots.{BodyFails, BlockFails}
+use Rattle.ledger_settling.specs.Reports.{IsWhole}
+use Rattle.ledger_job.specs.declared.block.Block.TheVariants.{Body, Rounds}
+use Rattle.ledger_job.specs.declared.block.BlockVerdicts.TheVariants.{Body as NoVerdicts}
+use Rattle.ledger_settling.specs.declared.fault.ReportFault.{ReportFault}
+use Rattle.ledger_settling.specs.declared.fault.ReportFault.TheVariants.{BadLog, BadValue, Rejected, Full, OutOfMemory}
+use Rattle.ledger_log.specs.declared.target.Target.{Target}
+use Rattle.ledger_log.specs.declared.any.AnyOp.{AnyOp}
+use Rattle.ledger_settling.specs.Blocks.{Meaning, Settles, RunsTo, grown, batch_of, IsRejected, IsFull, IsReadable}
+use Rattle.ledger_job.specs.declared.block.Block.{Block}
+use Rattle.ledger_job.specs.declared.block.BlockVerdicts.{BlockVerdicts}
+
+module _ {T A E : Type 0} (m : Meaning T A E) where
+  pub RunsTo-push : (bs : List (Block T)) (vs : List BlockVerdicts) (ops all : List AnyOp) (b : Block T) (v : BlockVerdicts)
+      → RunsTo m ops bs vs all → Settles m all b v → RunsTo m ops (bs ++ b ∷ []) (vs ++ v ∷ []) (grown m all (batch_of b v))
+  RunsTo-push [] [] ops all b v r s = (subst (λ o. Settles m o b v) r s, ap (λ o. grown m o (batch_of b v)) r)
+  RunsTo-push [] (w ∷ vs) ops all b v r s = absurd r
+  RunsTo-push (c ∷ bs) [] ops all b v r s = absurd r
+  RunsTo-push (c ∷ bs) (w ∷ vs) ops all b v r s = (r.0, RunsTo-push bs vs (grown m ops (batch_of c w)) all b v r.1 s)
+
+module _ {T A E : Type 0} (m : Meaning T A E) where
+  -- a body's fault is its block's
+  pub body_block_fails : (log : LogView AnyOp) (i : ℕ) (batch : List T) (block : Block T) (fault : ReportFault) → block ≡ Body batch → BodyFails m log i batch fault → BlockFails m log i block fault
+  body_block_fails log i batch block fault e h = subst (λ b. BlockFails m log i b fault) (sym e) (by fault h)
+    where
+      by : (f : ReportFault) → BodyFails m log i batch f → BlockFails m log i (Body batch) f
+      by (BadLog location) h = h
+      by (BadValue location) h = h
+      by (Rejected j r) h = h
+      by (Full j) h = (h.0, (NoVerdicts, h.1, h.2))
+      by OutOfMemory h = h
+
+  -- a block's fault is the run's
+  pub run_fails : (target : Target) (kept : List AnyOp) (blocks : List (Block T)) (vs : List BlockVerdicts) (log : LogView AnyOp) (i : ℕ) (block : Block T) (fault : ReportFault)
+      → IsWhole target.start kept → All (IsReadable m.values) kept → RunsTo m kept (take i blocks) vs log.ops → slice_get blocks i ≡ Some block → log.front ≡ target.start
+      → BlockFails m log i block fault → RunFails m target kept blocks fault
+  run_fails target kept blocks vs log i block (BadLog location) w a r at f h = absurd h
+  run_fails target kept blocks vs log i block (BadValue location) w a r at f h = absurd h
+  run_fails target kept blocks vs log i (Body batch) (Rejected j x) w a r at f h =
+      (w, a, subst (λ k. IsRejected m kept blocks k x) (sym h.0) (record { verdicts = vs; all = log.ops; before = r; batch = batch; at = at; offence = h.1 }))
+  run_fails target kept blocks vs log i (Rounds rounds) (Rejected j x) w a r at f h = absurd h.1
+  run_fails target kept blocks vs log i block (Full j) w a r at f h = (
+    w,
+    a,
+    subst (λ k. IsFull m target.start kept blocks k) (sym h.0)
+        (record { verdicts = vs; all = log.ops; before = r; block = block; verdict = h.1.0; at = at; settles = h.1.1; long = subst (λ n. 2 ^ 62 < n + length (grown m log.ops (batch_of block h.1.0))) f h.1.2 }),
+  )
+  run_fails target kept blocks vs log i block OutOfMemory w a r at f h = tt
+
+-- the root of a log, from its parts
+pub report_root : (log : LogView AnyOp) (start : ℕ) (pinned : List (List ℕ)) → log.front ≡ start → log.pinned ≡ pinned
+    → log_root sha256 any_spelling log ≡ part_root sha256 pinned start (map any_spelling log.ops)
+report_root log start pinned f p =
+    ap (λ n. root sha256 (log.front + n) (grow sha256 log.front log.pinned (map any_spelling log.ops))) (sym (length-map log.ops any_spelling))
+    ∙ ap (λ n. root sha256 (n + length (map any_spelling log.ops)) (grow sha256 n log.pinned (map any_spelling log.ops))) f
+    ∙ ap (λ ps. root sha256 (start + length (map any_spelling log.ops)) (grow sha256 start ps (map any_spelling log.ops))) p

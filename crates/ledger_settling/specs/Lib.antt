@@ -1,0 +1,4 @@
+pub mod Blocks
+pub mod Reports
+pub mod Faults
+pub mod Slots

@@ -1,0 +1,52 @@
+-- What a report says.
+use Rattle.std.specs.Prelude.{◌≡◌, ℕ, ◌+◌, ◌-◌, ◌<◌, ◌≤◌, Bool, List, length, map, Option, Some, All, count_ones}
+use Rattle.std.specs.BTreeMap.{BTreeMap, get}
+use Rattle.std.specs.Cmp.Lexicographic.{slice_cmp}
+use Rattle.std.specs.Ordering.{nat_cmp}
+use Rattle.sha2.specs.Sha256.{sha256}
+use Rattle.ledger_log.specs.Any.{any_floor, any_spelling}
+use Rattle.ledger_log.specs.View.{last_floor}
+use Rattle.ledger_log.specs.declared.any.AnyOp.{AnyOp}
+use Rattle.ledger_merkle.specs.Tree.{part_root}
+use Rattle.ledger_transfers.specs.Rules.{SameOutcome}
+use Rattle.ledger_settling.specs.Blocks.{Meaning, account_at, IsReadable, RunsTo}
+use Rattle.ledger_managed.specs.Values.{Values}
+use Rattle.ledger_job.specs.declared.block.Block.{Block}
+use Rattle.ledger_settling.specs.declared.report.Report.{Report}
+use Rattle.ledger_log.specs.declared.target.Target.{Target}
+
+-- the account that the map holds under the key
+abbrev pub held : {A : Type 0} → BTreeMap (List ℕ) A → List ℕ → Option A
+held accounts key = get (slice_cmp nat_cmp) accounts key
+
+-- the map holds the accounts of these operations
+abbrev pub IsReplay : {A : Type 0} → (A → A → Bool) → Values A → BTreeMap (List ℕ) A → List AnyOp → Type 0
+IsReplay same values accounts ops = (key : List ℕ) → SameOutcome same (held accounts key) (account_at values ops key)
+
+-- the last operation is a commit, with a floor from the start to its own location
+pub record IsWhole (start : ℕ) (ops : List AnyOp) : Type 0 where
+  pub floor : ℕ
+  pub commits : last_floor any_floor ops ≡ Some floor
+  pub least : start ≤ floor
+  pub most : floor < start + length ops
+
+-- these operations span the target and, behind the pinned nodes, have its root
+pub record Spans (target : Target) (pinned : List (List ℕ)) (kept : List AnyOp) : Type 0 where
+  pub nodes : length pinned ≡ count_ones target.start
+  pub range : target.start + length kept ≡ target.end
+  pub root : part_root sha256 pinned target.start (map any_spelling kept) ≡ target.root
+
+module _ {T A E : Type 0} (m : Meaning T A E) where
+  -- the report of these blocks over this target
+  pub record ReportOf (target : Target) (blocks : List (Block T)) (report : Report A) : Type 0 where
+    pub start : report.start ≡ target.start
+    pub end : report.end ≡ target.end
+    pub spans : Spans target report.pinned report.kept
+    pub whole : IsWhole target.start report.kept
+    pub readable : All (IsReadable m.values) report.kept
+    pub grows : RunsTo m report.kept blocks report.verdicts report.log.ops
+    pub front : report.log.front ≡ target.start
+    pub nodes : report.log.pinned ≡ report.pinned
+    pub accounts : IsReplay m.same m.values report.accounts report.log.ops
+    pub size : report.size ≡ target.start + length report.log.ops
+    pub root : report.root ≡ part_root sha256 report.pinned target.start (map any_spelling report.log.ops)

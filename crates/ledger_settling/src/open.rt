@@ -1,0 +1,122 @@
+//! A part opened as a log, and the report of blocks on it.
+ghost use Rattle.std.specs.Prelude.{◌≡◌, ℕ, IfOk, IfErr, OnOk};
+ghost use Rattle.ledger_settling.specs.Blocks.{meaning};
+ghost use Rattle.ledger_settling.specs.Reports.{Spans, ReportOf, IsWhole};
+ghost use Rattle.ledger_settling.specs.Faults.{RunFails, OpenFails};
+
+use crate::fault::ReportFault;
+use crate::replay::replay;
+use crate::report::Report;
+use crate::settle::settle_block;
+use ledger_codec::{Digest, List};
+use ledger_job::Block;
+use ledger_log::{AnyFamily, AnyOp, Key, Log, LogFault, Target};
+use ledger_managed::AccountValue;
+use ledger_merkle::{Location, Part, Sha256Hasher};
+use ledger_strategy::Strategy;
+use ledger_transfers::Transfer;
+use std::alloc::Global;
+use std::random::RandomSource;
+use std::thread::Threads;
+
+/// The log of a part that spans the target.
+fn open_log(
+    alloc: Global,
+    target: &Target,
+    part: Part<AnyOp>,
+) -> Result<Log<AnyFamily, Sha256Hasher>, ReportFault>
+    requires start { part.start ≡ target.now.start }
+    requires spans { Spans target.now part.pinned part.ops }
+    ensures log { IfOk result (λ log. log ≡ record { front = target.now.start; pinned = part.pinned; ops = part.ops }) }
+    ensures whole { OnOk result (IsWhole target.now.start part.ops) }
+    ensures fails { IfErr result (OpenFails target.now part.ops) }
+{
+    let last = target.end.get() - 1;
+    match Log::from_parts(
+        alloc,
+        part.pinned.into_vec(),
+        part.start,
+        part.ops.into_vec(),
+    ) {
+        Ok(log) => {
+            let _floor = log.floor();
+            Ok(log)
+        }
+        Err(LogFault::OutOfMemory) => Err(ReportFault::OutOfMemory),
+        Err(_) => Err(ReportFault::BadLog {
+            location: Location::ZERO.plus(last),
+        }),
+    }
+}
+
+/// The report of these blocks over the log of a part that spans the target, has its root, and ends in a
+/// commit whose floor lies within it. `kept` and `pinned` are the log's own operations and nodes.
+pub fn settle_log<
+    R: RandomSource + Threads + Sync,
+    T: Transfer<Key = Key, Account = A>,
+    A: AccountValue,
+    S: Strategy,
+>(
+    rt: &R,
+    alloc: Global,
+    target: &Target,
+    pinned: Vec<Digest>,
+    kept: Vec<AnyOp>,
+    log: Log<AnyFamily, Sha256Hasher>,
+    blocks: &[Block<T>],
+    strategy: &S,
+) -> Result<Report<A>, ReportFault>
+    requires log { log ≡ record { front = target.now.start; pinned = pinned.items; ops = kept.items } }
+    requires spans { Spans target.now pinned.items kept.items }
+    requires whole { IsWhole target.now.start kept.items }
+    ensures report { IfOk result (ReportOf (meaning T.changes_of A.eq A.rules A.values) target.now blocks.now) }
+    ensures kept { IfOk result (λ r. r.kept ≡ kept.items) }
+    ensures pinned { IfOk result (λ r. r.pinned ≡ pinned.items) }
+    ensures fails { IfErr result (RunFails (meaning T.changes_of A.eq A.rules A.values) target.now kept.items blocks.now) }
+{
+    let mut log = log;
+    let mut accounts = replay(alloc, target.start, &kept)?;
+    let mut verdicts = Vec::new(alloc);
+    for (place, block) in blocks.iter().enumerate() {
+        let verdict = settle_block(rt, alloc, &mut log, &mut accounts, place, block, strategy)?;
+        verdicts.push(verdict)?;
+    }
+    Ok(Report {
+        start: target.start,
+        end: target.end,
+        pinned: List::from_vec(pinned),
+        kept: List::from_vec(kept),
+        root: log.root(),
+        size: log.size(),
+        log,
+        accounts,
+        verdicts: List::from_vec(verdicts),
+    })
+}
+
+/// The report of these blocks over a part that spans the target and has its root.
+pub fn report_of<
+    R: RandomSource + Threads + Sync,
+    T: Transfer<Key = Key, Account = A>,
+    A: AccountValue,
+    S: Strategy,
+>(
+    rt: &R,
+    alloc: Global,
+    target: &Target,
+    part: Part<AnyOp>,
+    blocks: &[Block<T>],
+    strategy: &S,
+) -> Result<Report<A>, ReportFault>
+    requires start { part.start ≡ target.now.start }
+    requires spans { Spans target.now part.pinned part.ops }
+    ensures report { IfOk result (ReportOf (meaning T.changes_of A.eq A.rules A.values) target.now blocks.now) }
+    ensures kept { IfOk result (λ r. r.kept ≡ part.ops) }
+    ensures pinned { IfOk result (λ r. r.pinned ≡ part.pinned) }
+    ensures fails { IfErr result (RunFails (meaning T.changes_of A.eq A.rules A.values) target.now part.ops blocks.now) }
+{
+    let pinned = Vec::from_slice(alloc, part.pinned.as_slice())?;
+    let kept = Vec::from_slice(alloc, part.ops.as_slice())?;
+    let log = open_log(alloc, target, part)?;
+    settle_log(rt, alloc, target, pinned, kept, log, blocks, strategy)
+}

@@ -1,0 +1,76 @@
+#!/usr/bin/env python3
+"""Runs the built program over the examples and over made jobs, and compares what it prints and its status
+with the reference in reference.py. Ends with a line 'N passed, M failed'.
+
+    python3 tests/check_examples.py PROGRAM
+"""
+import pathlib
+import random
+import subprocess
+import sys
+
+sys.path.insert(0, str(pathlib.Path(__file__).parent))
+from reference import local  # noqa: E402
+
+ROOT = pathlib.Path(__file__).parent.parent
+NAMES = ["a", "b", "c", "d-1", "e_2", "f" * 32, "0x" + "1f" * 32, "0x" + "00" * 32]
+
+
+def payment(rng, nonces):
+    payer = rng.choice(NAMES)
+    nonce = nonces.get(payer, 0) if rng.random() < 0.8 else rng.randrange(3)
+    nonces[payer] = nonce + 1
+    amount = rng.choice([0, 1, 2, 5, 9, 2**63, 2**64 - 1] if rng.random() < 0.1 else [0, 1, 2, 3])
+    return f"pay {payer} {rng.choice(NAMES)} {amount} {nonce}"
+
+
+def made_job(seed):
+    """A job of a few accounts and blocks, at times with a line out of its place or out of form."""
+    rng = random.Random(seed)
+    lines, nonces = [], {}
+    for name in rng.sample(NAMES, rng.randrange(1, 7)):
+        lines.append(f"open {name} {rng.choice([0, 4, 20, 2**64 - 1])} {rng.randrange(2)}")
+    if rng.random() < 0.3:
+        lines.insert(0, "limits 7 3")
+    for _ in range(rng.randrange(4)):
+        if rng.random() < 0.4:
+            lines.append("body")
+            lines += [payment(rng, nonces) for _ in range(rng.randrange(3))]
+        else:
+            lines.append("rounds")
+            for _ in range(rng.randrange(3)):
+                lines.append("round")
+                lines += [payment(rng, nonces) for _ in range(rng.randrange(5))]
+    if rng.random() < 0.3:
+        odd = ["", "# note", "open a 1 0", "round", "pay a b 1", "open a 007 0", "limits 0 1", "body ", " body"]
+        lines.insert(rng.randrange(len(lines) + 1), rng.choice(odd))
+    return ("\n".join(lines) + rng.choice(["", "\n"])).encode()
+
+
+def same(printed, expected):
+    """Of several offending keys any may be named: the words before the key decide."""
+    if expected.startswith(("error refused", "error insufficient", "error overflow")):
+        return printed.startswith("error ") and printed.split()[2:3] == expected.split()[2:3]
+    return printed == expected
+
+
+def main(program):
+    cases = [(p.name, p.read_bytes()) for p in sorted((ROOT / "examples").glob("*.job"))]
+    cases += [(f"seed {seed}", made_job(seed)) for seed in range(300)]
+    failed = 0
+    for name, job in cases:
+        run = subprocess.run([program, "local"], input=job, capture_output=True, timeout=60)
+        printed, status = local(job)
+        good = run.returncode == status and same(run.stdout.decode(), printed)
+        stored = ROOT / "examples" / name.replace(".job", ".out")
+        if name.endswith(".job"):
+            good = good and stored.read_text() == printed
+        if not good:
+            failed += 1
+            print(f"{name}: status {run.returncode}, wanted {status}\n{run.stdout.decode()}wanted\n{printed}")
+    print(f"{len(cases) - failed} passed, {failed} failed")
+    return 1 if failed else 0
+
+
+if __name__ == "__main__":
+    sys.exit(main(sys.argv[1]))
