@@ -1,11 +1,16 @@
-//! What a client and a server say to each other: nine messages, each a tag and its fields.
+//! What a client and a server say to each other, and the client's side of asking.
 //!
 //! ```text
-//!   Message  --encode-->  body  --frame-->  bytes  --Framer-->  body  --decode-->  Message
+//!   Ask --Machine::submit_*--> frame --Link::send-->  server
+//!                                                       |
+//!   Answer <--Machine::next_answer-- bytes <--Link::recv+
 //! ```
 //!
-//! The bytes are those of docs/FORMATS.md. A message within its limits that was written is read again as
-//! it, whatever follows, and no message's bytes begin another's.
+//! There are nine messages, each a tag and its fields; their bytes are those of docs/FORMATS.md. A message
+//! within its limits that was written is read again as it, whatever follows, and no message's bytes begin
+//! another's. A `Machine` numbers requests, keeps what was asked under each number, and hands out each
+//! answer with its request, at most one under a number. A `Link` carries bytes both ways, and tells as much
+//! of them as it can; a `Dialer` is a link that is made by dialing.
 #![tactic(auto)]
 
 mod ask;
@@ -36,3 +41,6 @@ pub use response::{
     ErrorResponse, GetCompactStateResponse, GetCompactTargetResponse, GetOperationsResponse,
     GetSyncTargetResponse,
 };
+
+#[cfg(test)]
+mod tests;
