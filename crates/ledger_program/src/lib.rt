@@ -25,3 +25,6 @@ mod writing;
 pub use fault::Fault;
 pub use outcome::{Outcome, RunFault};
 pub use program::run;
+
+#[cfg(test)]
+mod tests;
