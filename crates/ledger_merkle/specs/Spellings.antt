@@ -1,12 +1,12 @@
 -- Locations and proofs as bytes.
 use Rattle.std.specs.Prelude.{◌≡◌, ℕ, ◌≤◌, ◌^◌, ◌-◌, List, ◌++◌, length, All, Ok, Err, nat_le, if◌then◌else◌}
-use Rattle.std.proofs.Common.{refl, sym, ap, ◌∙◌, append_assoc, arith, lit≤, leb, true}
+use Rattle.std.proofs.Common.{refl, ap, ◌∙◌, append_assoc, arith, lit≤, leb, true}
 use Rattle.std.proofs.lemmas.Bool.Decides.{nat_tests}
 use Rattle.ledger_codec.specs.declared.fault.CodecError.TheVariants as faults
 use Rattle.ledger_codec.specs.Parsing.{Parsed, ◌>>=◌}
 use Rattle.ledger_codec.specs.Numbers.{varint64_at, digest_at, varint}
 use Rattle.ledger_codec.specs.Sequences.{list_at, list_written}
-use Rattle.ledger_codec.specs.Spelling.{IsLocal, IsReadAgain, SpellLaws}
+use Rattle.ledger_codec.specs.Spelling.{IsLocal, SpellLaws}
 use Rattle.ledger_codec.specs.Laws.{then_local, same_local, cond_local, ok_local, err_local, varint64_local, varint64_again, digest_local, digest_again, list_local, list_again}
 use Rattle.ledger_merkle.specs.declared.proof.Proof.{Proof}
 

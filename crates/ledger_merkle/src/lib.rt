@@ -21,10 +21,13 @@ mod level;
 mod location;
 mod merkle_list;
 mod peaks;
+mod plain;
 mod proof;
 mod range;
 mod sha;
 mod spelling;
+#[cfg(test)]
+mod tests;
 mod toy;
 
 pub use hashed::{hash_item, hash_leaf, hash_node, hash_root};
@@ -33,6 +36,7 @@ pub use leaf::Leaf;
 pub use location::{Location, MAX_LEAVES};
 pub use merkle_list::MerkleList;
 pub use peaks::Peaks;
+pub use plain::plain_digests;
 pub use proof::{Part, Proof};
 pub use range::{RangeFault, check_range};
 pub use sha::Sha256Hasher;

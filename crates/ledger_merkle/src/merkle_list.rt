@@ -317,7 +317,7 @@ impl<H: Hasher> MerkleList<H> {
 }
 
 /// How many whole nodes of this height the first `size` leaves have.
-fn index_of(size: u64, height: u32) -> u64
+pub(crate) fn index_of(size: u64, height: u32) -> u64
     requires { height ≤ 62 }
     ensures { result ≡ size / 2 ^ height }
 {
@@ -325,7 +325,7 @@ fn index_of(size: u64, height: u32) -> u64
 }
 
 /// Where the node of this height with this index begins.
-fn place_of(height: u32, index: u64) -> u64
+pub(crate) fn place_of(height: u32, index: u64) -> u64
     requires high { height ≤ 62 }
     requires whole { (index + 1) * 2 ^ height ≤ 2 ^ 62 }
     ensures place { result ≡ index * 2 ^ height }
@@ -335,7 +335,7 @@ fn place_of(height: u32, index: u64) -> u64
 }
 
 /// No leaf of the subtree is in the range.
-fn lies_outside(start: u64, end: u64, height: u32, at: u64) -> bool
+pub(crate) fn lies_outside(start: u64, end: u64, height: u32, at: u64) -> bool
     requires high { height ≤ 62 }
     requires room { at + 2 ^ height ≤ 2 ^ 62 }
     ensures { result ≡ is_outside start end height at }
