@@ -1,0 +1,25 @@
+-- Lists that grow at their end, and where a run was over.
+use Rattle.std.proofs.Common.{◌≡◌, ◌≤◌, ◌+◌, ℕ, Bool, List, [], ◌++◌, Option, Result, length, take, sym, ap, ◌∙◌, arith, length-append}
+use Rattle.std.proofs.lemmas.List.{append-nil, take-append-le}
+use Rattle.simulate_parts.specs.Tracker.{tracker_of}
+use Rattle.simulate_parts.specs.TrackerView.{TrackerView}
+use Rattle.simulate_parts.specs.declared.engine.StateView.{StateView}
+use Rattle.simulate_parts.specs.declared.tracker.FinalizationUpdate.{FinalizationUpdate}
+use Rattle.ledger_simulate.specs.Reaching.{IsReached}
+use Rattle.ledger_simulate.specs.Runs.{Extends}
+use Rattle.ledger_simulate.specs.declared.reports.Reached.{Reached}
+
+-- nothing more
+pub extends_same : {X : Type 0} (before after : List X) → after ≡ before → Extends before after
+extends_same before after same = record { added = []; is = same ∙ sym (append-nil before) }
+
+-- the condition was met after a first part of a longer list too
+pub still_reached : {C : Type 0} (verdict : C → TrackerView → List StateView → ℕ → Result Bool (List ℕ)) (condition : Option C) (required target : ℕ) (before after more : List FinalizationUpdate) (reached : Reached) → after ≡ before ++ more → IsReached verdict condition required target before reached → IsReached verdict condition required target after reached
+still_reached verdict condition required target before after more reached grown at =
+    let inside : reached.count ≤ length before = at.within in
+    let longer : length after ≡ length before + length more = ap length grown ∙ length-append before more in
+    record {
+      met = at.met;
+      within = omega arith;
+      tracker = at.tracker ∙ ap tracker_of (sym (ap (take reached.count) grown ∙ take-append-le reached.count before more inside));
+    }

@@ -1,0 +1,13 @@
+use Rattle.std.proofs.Common.{◌≡◌, None}
+use Rattle.ledger_simulate.proofs.Each.{All_more, All_whole}
+use Rattle.ledger_simulate.proofs.asks.check_properties.Goals as goal
+
+pub loop-property-preserved : goal.loop-property-preserved
+loop-property-preserved g c =
+    All_more (λ p. (goal.Property-dyn g (p.vtable, p.value)).property_complaint p.value c.args.tracker.now c.args.states.now ≡ None) c.args.properties.now c.loop-property.property-index
+    c.property-item.result c.loop-property-test.true c.property-item.is c.loop-property.invariant c.in-Ok.ensures.ok
+
+pub returns-clause-ok : goal.returns-clause-ok
+returns-clause-ok g c =
+    All_whole (λ p. (goal.Property-dyn g (p.vtable, p.value)).property_complaint p.value c.args.tracker.now c.args.states.now ≡ None) c.args.properties.now c.loop-property.property-index
+    c.loop-property-test.false c.loop-property.invariant

@@ -1,0 +1,10 @@
+use Rattle.ledger_simulate.proofs.simulation.Simulation.step.Goals as goal
+
+pub returns-clause-late : goal.returns-clause-late
+returns-clause-late g c = λ e none h. c.advance.ensures.late e h
+
+pub returns-clause-ended : goal.returns-clause-ended
+returns-clause-ended g c = λ e h. let p = c.advance.ensures.late e h in (p.2, p.3, p.4)
+
+pub returns-clause-on : goal.returns-clause-on
+returns-clause-on g c = λ next h. let p = c.advance.ensures.on next h in (p.0, p.1, p.2, c.early.ensures.below c.in-None.is, p.3, p.4)

@@ -1,0 +1,9 @@
+pub mod Exercise
+pub mod Links
+pub mod Messages
+pub mod Plans
+pub mod Queue
+pub mod Reaching
+pub mod Results
+pub mod Runs
+pub mod Stops

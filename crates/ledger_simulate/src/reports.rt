@@ -1,0 +1,209 @@
+//! What the reports of a step set off.
+ghost use Rattle.std.specs.Prelude.{◌≡◌, ◌++◌, ◌∷◌, [], IfErr, IfOk, IfSome, IsTrue, OnOk};
+ghost use Rattle.simulate_parts.specs.Engine.{updates_of};
+ghost use Rattle.ledger_simulate.specs.Plans.{target_count};
+ghost use Rattle.ledger_simulate.specs.Reaching.{IsReached};
+ghost use Rattle.ledger_simulate.specs.Stops.{stops_late};
+
+use crate::agenda::Agenda;
+use crate::asks::{ask_exit, check_finalizations};
+use crate::fault::Stop;
+use crate::plan::Plan;
+use crate::watch::Watch;
+use crate::world::World;
+use ledger_codec::{List, OutOfMemory};
+use simulate_parts::{
+    EngineDefinition, FinalizationUpdate, Peer, ProgressTracker, Round, StateView, active_states,
+};
+use std::alloc::Global;
+
+/// Where the exit condition answered true: the tracker and the states of that moment, and how many reports
+/// the tracker is of.
+#[derive(Drop)]
+pub struct Reached {
+    pub tracker: ProgressTracker,
+    pub count: usize,
+    pub states: Vec<StateView>,
+}
+
+/// The reports of an engine's output.
+pub fn reports_of(
+    alloc: Global,
+    pk: Peer,
+    finalized: Vec<(Round, u64, List<u8>)>,
+) -> Result<Vec<FinalizationUpdate>, OutOfMemory>
+    ensures { IfOk result (λ updates. updates.items ≡ updates_of pk finalized.items) }
+{
+    let mut updates = Vec::new(alloc);
+    for block in finalized {
+        let (round, height, block_digest) = block;
+        updates.push(FinalizationUpdate {
+            pk,
+            round,
+            height,
+            block_digest,
+        })?;
+    }
+    Ok(updates)
+}
+
+/// Asks the exit condition on the reports so far and these states.
+pub fn ask<D: EngineDefinition>(
+    plan: &Plan<D>,
+    world: &World<D>,
+    watch: &Watch,
+    states: Vec<StateView>,
+) -> Result<Option<Reached>, Stop>
+    ensures reached { IfOk result (λ o. IfSome o (λ r. IsReached (λ c. exit_verdict c) plan.now.exit_condition plan.now.required_finalizations (target_count plan.now.participants plan.now.crashes world.now.exercise.delayed_started) watch.now r)) }
+    ensures late { IfErr result (λ s. IsTrue (stops_late s)) }
+{
+    match ask_exit(
+        world.alloc,
+        plan,
+        watch.tracker(),
+        states.as_slice(),
+        world.target(plan),
+    ) {
+        Ok(true) => {}
+        Ok(false) => return Ok(None),
+        Err(stop) => return Err(stop),
+    }
+    let count = watch.updates().len();
+    match ProgressTracker::of(world.alloc, watch.updates()) {
+        Ok(tracker) => Ok(Some(Reached {
+            tracker,
+            count,
+            states,
+        })),
+        Err(_) => Err(Stop::OutOfMemory),
+    }
+}
+
+/// Observes a report before the exit condition is reached, with all that it sets off.
+fn take_report<D: EngineDefinition>(
+    plan: &Plan<D>,
+    world: &mut World<D>,
+    watch: &mut Watch,
+    agenda: &mut Agenda,
+    update: FinalizationUpdate,
+) -> Result<Option<Reached>, Stop>
+    ensures updates { OnOk result (watch.new ≡ watch.old ++ update ∷ []) }
+    ensures reached { IfOk result (λ o. IfSome o (λ r. IsReached (λ c. exit_verdict c) plan.now.exit_condition plan.now.required_finalizations (target_count plan.now.participants plan.now.crashes world.new.exercise.delayed_started) watch.new r)) }
+    ensures late { IfErr result (λ s. IsTrue (stops_late s)) }
+{
+    match watch.observe(update) {
+        Ok(()) => {}
+        Err(stop) => return Err(stop),
+    }
+    match world.enter_windows(plan, agenda) {
+        Ok(()) => {}
+        Err(stop) => return Err(stop),
+    }
+    match check_and_ask(plan, world, watch) {
+        Ok(Some(reached)) => Ok(Some(reached)),
+        Ok(None) => match world.start_delayed(plan, agenda, watch.tracker()) {
+            Ok(()) => Ok(None),
+            Err(OutOfMemory) => Err(Stop::OutOfMemory),
+        },
+        Err(stop) => Err(stop),
+    }
+}
+
+/// Checks the states of now.
+fn check_now<D: EngineDefinition>(plan: &Plan<D>, world: &World<D>) -> Result<Vec<StateView>, Stop>
+    ensures { IfErr result (λ s. IsTrue (stops_late s)) }
+{
+    let states = match active_states(world.alloc, &world.seats) {
+        Ok(states) => states,
+        Err(OutOfMemory) => return Err(Stop::OutOfMemory),
+    };
+    match check_finalizations(
+        world.alloc,
+        plan.finalization_property.as_slice(),
+        states.as_slice(),
+    ) {
+        Ok(()) => Ok(states),
+        Err(stop) => Err(stop),
+    }
+}
+
+/// Checks the states of now, and asks the exit condition on them.
+fn check_and_ask<D: EngineDefinition>(
+    plan: &Plan<D>,
+    world: &World<D>,
+    watch: &Watch,
+) -> Result<Option<Reached>, Stop>
+    ensures reached { IfOk result (λ o. IfSome o (λ r. IsReached (λ c. exit_verdict c) plan.now.exit_condition plan.now.required_finalizations (target_count plan.now.participants plan.now.crashes world.now.exercise.delayed_started) watch.now r)) }
+    ensures late { IfErr result (λ s. IsTrue (stops_late s)) }
+{
+    match check_now(plan, world) {
+        Ok(states) => ask(plan, world, watch, states),
+        Err(stop) => Err(stop),
+    }
+}
+
+/// Observes a report after the exit condition was reached.
+fn drain_report<D: EngineDefinition>(
+    plan: &Plan<D>,
+    world: &World<D>,
+    watch: &mut Watch,
+    update: FinalizationUpdate,
+) -> Result<(), Stop>
+    ensures updates { OnOk result (watch.new ≡ watch.old ++ update ∷ []) }
+    ensures late { IfErr result (λ s. IsTrue (stops_late s)) }
+{
+    match watch.observe(update) {
+        Ok(()) => {}
+        Err(stop) => return Err(stop),
+    }
+    match check_now(plan, world) {
+        Ok(_) => Ok(()),
+        Err(stop) => Err(stop),
+    }
+}
+
+/// Observes the next report.
+fn next_report<D: EngineDefinition>(
+    plan: &Plan<D>,
+    world: &mut World<D>,
+    watch: &mut Watch,
+    agenda: &mut Agenda,
+    reached: Option<Reached>,
+    update: FinalizationUpdate,
+) -> Result<Option<Reached>, Stop>
+    requires { IfSome reached (λ r. IsReached (λ c. exit_verdict c) plan.now.exit_condition plan.now.required_finalizations (target_count plan.now.participants plan.now.crashes world.old.exercise.delayed_started) watch.old r) }
+    ensures updates { OnOk result (watch.new ≡ watch.old ++ update ∷ []) }
+    ensures reached { IfOk result (λ o. IfSome o (λ r. IsReached (λ c. exit_verdict c) plan.now.exit_condition plan.now.required_finalizations (target_count plan.now.participants plan.now.crashes world.new.exercise.delayed_started) watch.new r)) }
+    ensures late { IfErr result (λ s. IsTrue (stops_late s)) }
+{
+    match reached {
+        None => take_report(plan, world, watch, agenda, update),
+        Some(reached) => match drain_report(plan, world, watch, update) {
+            Ok(()) => Ok(Some(reached)),
+            Err(stop) => Err(stop),
+        },
+    }
+}
+
+/// Observes the reports of a step, in order. Once the exit condition is reached the others are only
+/// observed and checked.
+pub fn take_reports<D: EngineDefinition>(
+    plan: &Plan<D>,
+    world: &mut World<D>,
+    watch: &mut Watch,
+    agenda: &mut Agenda,
+    updates: Vec<FinalizationUpdate>,
+) -> Result<Option<Reached>, Stop>
+    ensures updates { OnOk result (watch.new ≡ watch.old ++ updates.items) }
+    ensures reached { IfOk result (λ o. IfSome o (λ r. IsReached (λ c. exit_verdict c) plan.now.exit_condition plan.now.required_finalizations (target_count plan.now.participants plan.now.crashes world.new.exercise.delayed_started) watch.new r)) }
+    ensures late { IfErr result (λ s. IsTrue (stops_late s)) }
+{
+    let mut reached = None;
+    for update in updates {
+        match next_report(plan, world, watch, agenda, reached, update) {
+            Ok(next) => reached = next,
+            Err(stop) => return Err(stop),
+        }
+    }
+    Ok(reached)
+}

@@ -1,0 +1,388 @@
+//! The engines of a run and what surrounds them.
+ghost use Rattle.std.specs.Prelude.{◌≡◌, ◌<◌, IfErr, IsTrue, filter, length, vec_len};
+ghost use Rattle.simulate_parts.specs.Team.{names};
+ghost use Rattle.ledger_simulate.specs.Plans.{named_late, target_count};
+ghost use Rattle.ledger_simulate.specs.Stops.{stops_late};
+
+use crate::agenda::Agenda;
+use crate::event::Event;
+use crate::exercise::Exercise;
+use crate::fault::{PlanFault, Stop};
+use crate::links::Links;
+use crate::messages::Rules;
+use crate::plan::Plan;
+use ledger_codec::OutOfMemory;
+use rand_core::utils::NextWord;
+use rand_pcg::Pcg32;
+use simulate_parts::{
+    Action, Crash, EngineDefinition, FaultConfig, Peer, ProcessedHeight, ProgressTracker, Round,
+    Seats, Start, active_keys, is_among, start_engine, stop_engine,
+};
+use std::alloc::Global;
+use std::collections::BTreeMap;
+
+/// The engines that run, the links between them, the words that decide about messages and random crashes,
+/// the storage fault that new engines are told of, and what the configured failures came to.
+#[derive(Drop)]
+pub struct World<D: EngineDefinition> {
+    pub alloc: Global,
+    pub seats: Seats<D>,
+    pub links: Links,
+    pub words: Pcg32,
+    pub rules: Rules,
+    pub fault: FaultConfig,
+    pub exercise: Exercise,
+}
+
+impl<D: EngineDefinition> World<D> {
+    /// Nobody runs yet.
+    pub fn new(alloc: Global, plan: &Plan<D>, words: Pcg32) -> Result<Self, OutOfMemory> {
+        Ok(World {
+            alloc,
+            seats: BTreeMap::new(alloc),
+            links: Links::new(alloc, plan.link),
+            words,
+            rules: Rules {
+                max_size: plan.engine.max_message_size(),
+                channels: plan.engine.channels(alloc)?,
+            },
+            fault: match plan.storage_fault {
+                Some(fault) => fault,
+                None => FaultConfig { rate: None },
+            },
+            exercise: Exercise::new(alloc, plan.crashes.as_slice().len())?,
+        })
+    }
+
+    /// Starts a participant's engine now, in place of the one that it had. The engine's birth is the number
+    /// of its Started event.
+    pub fn launch(
+        &mut self,
+        plan: &Plan<D>,
+        agenda: &mut Agenda,
+        pk: Peer,
+    ) -> Result<(), OutOfMemory> {
+        let participants = plan.participants.as_slice();
+        let start = Start {
+            pk,
+            index: place(participants, pk),
+            delayed: is_among(named_late_by(plan.crashes.as_slice()), &pk),
+            fault: self.fault,
+            birth: agenda.number()?,
+        };
+        start_engine(
+            self.alloc,
+            &plan.engine,
+            participants,
+            &mut self.seats,
+            start,
+        )?;
+        agenda.after(0, Event::Started { pk })
+    }
+
+    /// Starts a participant's engine now; nothing where the peer is none.
+    pub fn relaunch(
+        &mut self,
+        plan: &Plan<D>,
+        agenda: &mut Agenda,
+        pk: Peer,
+    ) -> Result<(), OutOfMemory> {
+        if is_among(plan.participants.as_slice(), &pk) {
+            self.launch(plan, agenda, pk)?;
+        }
+        Ok(())
+    }
+
+    /// Stops a peer, counts the crash where it ran, and says whether it did.
+    fn crash(&mut self, pk: &Peer) -> bool {
+        let ran = stop_engine(&mut self.seats, pk);
+        if ran {
+            self.exercise.count_crash();
+        }
+        ran
+    }
+
+    /// Stops a peer for a downtime.
+    fn crash_for(
+        &mut self,
+        agenda: &mut Agenda,
+        pk: Peer,
+        downtime: u64,
+    ) -> Result<(), OutOfMemory> {
+        if self.crash(&pk) {
+            agenda.after(downtime, Event::Recover { pk })?;
+        }
+        Ok(())
+    }
+
+    /// Does what a schedule says, and counts it.
+    pub fn act(
+        &mut self,
+        plan: &Plan<D>,
+        agenda: &mut Agenda,
+        action: Action,
+    ) -> Result<(), OutOfMemory> {
+        self.exercise.count_action();
+        match action {
+            Action::SetStorageFault(fault) => {
+                self.fault = fault;
+                Ok(())
+            }
+            Action::Heal(link) => {
+                self.links = Links::new(self.alloc, link);
+                Ok(())
+            }
+            Action::UpdateLink { from, to, link } => self.update_link(plan, from, to, link),
+            Action::Crash(pk) => {
+                self.crash(&pk);
+                Ok(())
+            }
+            Action::Restart(pk) => self.relaunch(plan, agenda, pk),
+        }
+    }
+
+    /// Sets one directed link; nothing where the two peers are equal or one is no participant.
+    fn update_link(
+        &mut self,
+        plan: &Plan<D>,
+        from: Peer,
+        to: Peer,
+        link: simulate_parts::SimLink,
+    ) -> Result<(), OutOfMemory> {
+        let participants = plan.participants.as_slice();
+        if from == to || !is_among(participants, &from) || !is_among(participants, &to) {
+            return Ok(());
+        }
+        self.links.set(from, to, link)
+    }
+
+    /// Crashes as many running peers as the configured random failure says, each by a word modulo the
+    /// number of those left, and sets the ticker again.
+    pub fn crash_at_random(
+        &mut self,
+        plan: &Plan<D>,
+        agenda: &mut Agenda,
+    ) -> Result<(), OutOfMemory> {
+        let Some(random) = random_of(plan.crashes.as_slice()) else {
+            return Ok(());
+        };
+        let mut left = active_keys(self.alloc, &self.seats)?;
+        for _ in 0..random.count {
+            if left.len() == 0 {
+                break;
+            }
+            let pk = pick(&mut self.words, &mut left);
+            self.crash_for(agenda, pk, random.downtime)?;
+        }
+        agenda.after(random.frequency, Event::CrashTick)
+    }
+
+    /// Crashes the participants whose heights have entered the windows in which they are to crash.
+    pub fn enter_windows(&mut self, plan: &Plan<D>, agenda: &mut Agenda) -> Result<(), Stop>
+        ensures { IfErr result (λ s. IsTrue (stops_late s)) }
+    {
+        for (index, crash) in plan.crashes.as_slice().iter().enumerate() {
+            if let Crash::ProcessedHeight {
+                participant,
+                first,
+                last,
+                downtime,
+            } = crash
+            {
+                let window = Window {
+                    participant: *participant,
+                    first: *first,
+                    last: *last,
+                    downtime: *downtime,
+                };
+                match self.enter_window(agenda, index, window) {
+                    Ok(()) => {}
+                    Err(stop) => return Err(stop),
+                }
+            }
+        }
+        Ok(())
+    }
+
+    /// Crashes a participant whose height is in the window of the configured failure at this place, once.
+    fn enter_window(
+        &mut self,
+        agenda: &mut Agenda,
+        index: usize,
+        window: Window,
+    ) -> Result<(), Stop>
+        ensures { IfErr result (λ s. IsTrue (stops_late s)) }
+    {
+        if self.exercise.has_entered(index) {
+            return Ok(());
+        }
+        let Some(height) = height_of(&self.seats, &window.participant) else {
+            return Ok(());
+        };
+        if height < window.first {
+            return Ok(());
+        }
+        if height > window.last {
+            return Err(Stop::Fault(PlanFault::SkippedWindow { height }));
+        }
+        self.exercise.enter(index);
+        match self.crash_for(agenda, window.participant, window.downtime) {
+            Ok(()) => Ok(()),
+            Err(OutOfMemory) => Err(Stop::OutOfMemory),
+        }
+    }
+
+    /// How many participants count for the exit condition.
+    pub fn target(&self, plan: &Plan<D>) -> usize
+        ensures { result ≡ target_count plan.now.participants plan.now.crashes self.now.exercise.delayed_started }
+    {
+        let participants = plan.participants.as_slice();
+        let all = participants.len();
+        if self.exercise.delayed_started {
+            all
+        } else {
+            all.saturating_sub(count_late(participants, named_late_by(plan.crashes.as_slice())))
+        }
+    }
+
+    /// Starts the delayed participants, in ascending order, once a finalized round reaches theirs.
+    pub fn start_delayed(
+        &mut self,
+        plan: &Plan<D>,
+        agenda: &mut Agenda,
+        tracker: &ProgressTracker,
+    ) -> Result<(), OutOfMemory> {
+        if self.exercise.delayed_started || !is_due(plan.crashes.as_slice(), tracker.max_round()) {
+            return Ok(());
+        }
+        let mut delayed = late_ones(
+            self.alloc,
+            plan.participants.as_slice(),
+            named_late_by(plan.crashes.as_slice()),
+        )?;
+        if delayed.len() == 0 {
+            return Ok(());
+        }
+        delayed.sort()?;
+        for pk in delayed {
+            self.launch(plan, agenda, pk)?;
+        }
+        self.exercise.delayed_started = true;
+        Ok(())
+    }
+}
+
+/// A window of heights in which a participant crashes.
+#[derive(Clone, Copy)]
+struct Window {
+    participant: Peer,
+    first: u64,
+    last: u64,
+    downtime: u64,
+}
+
+/// A random failure.
+#[derive(Clone, Copy)]
+pub struct Random {
+    pub frequency: u64,
+    pub downtime: u64,
+    pub count: usize,
+}
+
+/// The configured random failure.
+pub fn random_of(crashes: &[Crash]) -> Option<Random> {
+    for crash in crashes {
+        if let Crash::Random {
+            frequency,
+            downtime,
+            count,
+        } = crash
+        {
+            return Some(Random {
+                frequency: *frequency,
+                downtime: *downtime,
+                count: *count,
+            });
+        }
+    }
+    None
+}
+
+/// Takes one of these peers out, by a word modulo their number.
+fn pick(words: &mut Pcg32, left: &mut Vec<Peer>) -> Peer
+    requires { 0 < vec_len left.old }
+{
+    let at = words.next_word() as usize % left.len();
+    left.remove(at)
+}
+
+/// Whether a round reaches the one at which the delayed participants are started.
+fn is_due(crashes: &[Crash], reached: Option<Round>) -> bool {
+    for crash in crashes {
+        if let Crash::DelayRound { round, .. } = crash {
+            return match reached {
+                Some(reached) => reached >= *round,
+                None => false,
+            };
+        }
+    }
+    false
+}
+
+/// The peers that the plan's failures name to be started late.
+pub fn named_late_by(crashes: &[Crash]) -> &[Peer]
+    ensures { result.now ≡ named_late crashes.now }
+{
+    for crash in crashes {
+        if let Crash::DelayRound { participants, .. } = crash {
+            return participants.as_slice();
+        }
+    }
+    &[]
+}
+
+/// How many of these participants are named.
+fn count_late(participants: &[Peer], named: &[Peer]) -> usize
+    ensures { result ≡ length (filter (names named.now) participants.now) }
+{
+    participants
+        .iter()
+        .filter(|peer| is_among(named, *peer))
+        .count()
+}
+
+/// Those participants that are named.
+fn late_ones(
+    alloc: Global,
+    participants: &[Peer],
+    named: &[Peer],
+) -> Result<Vec<Peer>, OutOfMemory> {
+    let mut late = Vec::new(alloc);
+    for peer in participants {
+        if is_among(named, peer) {
+            late.push(*peer)?;
+        }
+    }
+    Ok(late)
+}
+
+/// The height of a peer's state, where it runs.
+fn height_of<D: EngineDefinition>(seats: &Seats<D>, pk: &Peer) -> Option<u64> {
+    match seats.get(pk) {
+        Some(seat) => match &seat.running {
+            Some(running) => Some(running.state.processed_height()),
+            None => None,
+        },
+        None => None,
+    }
+}
+
+/// The place of a peer among these, 0 where it is none.
+fn place(peers: &[Peer], pk: Peer) -> usize {
+    for (i, peer) in peers.iter().enumerate() {
+        if *peer == pk {
+            return i;
+        }
+    }
+    0
+}
