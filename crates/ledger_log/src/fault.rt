@@ -7,7 +7,7 @@ use ledger_merkle::Location;
 use std::alloc::{AllocError, AllocFailed};
 
 /// Why a call of a log was refused.
-#[derive(Drop, Debug)]
+#[derive(Clone, Copy, PartialEq, Eq, Debug)]
 pub enum LogFault {
     /// There is no last operation, or it is no commit.
     NoCommit,

@@ -22,6 +22,8 @@ mod keyless;
 mod log;
 mod spelling;
 mod target;
+#[cfg(test)]
+mod tests;
 
 pub use any::{AnyFamily, AnyOp};
 pub use family::{CompactFamily, Family, Key, KeyedFamily, Value};
