@@ -16,6 +16,8 @@ impl Link for Nowhere {
 
     ghost wire = { λ _. None };
 
+    ghost service = { λ _. None };
+
     fn send(&mut self, _bytes: &[u8]) -> Result<(), LinkError> {
         Err(LinkError::Failed)
     }

@@ -8,3 +8,5 @@ pub mod Asking
 pub mod Codes
 pub mod Wire
 pub mod Pendings
+pub mod Core
+pub mod Service

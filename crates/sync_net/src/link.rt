@@ -3,6 +3,7 @@ ghost use Rattle.std.specs.Prelude.{◌≡◌, ◌≤◌, ℕ, Bool, length, IfO
 ghost use Rattle.std.specs.declared.option.Option.{Option};
 ghost use Rattle.ledger_codec.specs.Causes.{HasCause, HasCauseOf};
 ghost use Rattle.sync_net.specs.Wire.{Wire, CountStays, CannotFail, wire_sent, wire_received, EndsAgain};
+ghost use Rattle.sync_net.specs.Service.{Service, service_sent, ServiceReceived};
 ghost use Rattle.sync_net.specs.declared.link.LinkError.TheVariants.{Failed};
 
 /// Why a call of a link did nothing.
@@ -28,12 +29,16 @@ pub trait Link {
     /// The bytes given and sent so far, where it tells them.
     ghost wire: { Self → Option Wire };
 
+    /// The log that it serves and the replies that it owes, where it tells them.
+    ghost service: { Self → Option Service };
+
     /// Sends all of these bytes.
     fn send(&mut self, bytes: &[u8]) -> Result<(), LinkError>
         ensures cause { HasCauseOf Failed (faults self.old) (faults self.new) result }
         ensures exact_count { IsTrue exact → CountStays (faults self.old) (faults self.new) result }
         ensures steady_on { steady self.old → steady self.new × CannotFail (faults self.old) (faults self.new) result }
-        ensures wire_now { wire self.new ≡ wire_sent result bytes.now (wire self.old) };
+        ensures wire_now { wire self.new ≡ wire_sent result bytes.now (wire self.old) }
+        ensures service_now { service self.new ≡ service_sent result bytes.now (service self.old) };
 
     /// Gives the next bytes; 0 of a buffer that isn't empty is the end.
     fn recv(&mut self, buffer: &mut [u8]) -> Result<usize, LinkError>
@@ -42,7 +47,8 @@ pub trait Link {
         ensures exact_count { IsTrue exact → CountStays (faults self.old) (faults self.new) result }
         ensures steady_on { steady self.old → steady self.new × CannotFail (faults self.old) (faults self.new) result }
         ensures wire_now { wire self.new ≡ wire_received result buffer.new (wire self.old) }
-        ensures ends_again { EndsAgain (wire self.old) result };
+        ensures ends_again { EndsAgain (wire self.old) result }
+        ensures service_now { ServiceReceived (service self.old) (service self.new) result buffer.new };
 }
 
 /// A dial that failed.
@@ -59,5 +65,6 @@ pub trait Dialer: Link {
         ensures cause { HasCause (dials self.old) (dials self.new) result }
         ensures faults_stay { Self.faults self.new ≡ Self.faults self.old }
         ensures steady_on { Self.steady self.old → Self.steady self.new }
-        ensures wire_stays { Self.wire self.new ≡ Self.wire self.old };
+        ensures wire_stays { Self.wire self.new ≡ Self.wire self.old }
+        ensures service_stays { Self.service self.new ≡ Self.service self.old };
 }
