@@ -1,0 +1,5 @@
+use Rattle.sync_server.proofs.Counting.{count_cause}
+use Rattle.sync_server.proofs.tape.TapeLinkLink.send.Goals as goal
+
+pub returns-clause-cause : goal.returns-clause-cause
+returns-clause-cause c = count_cause _ _ _ c.keep.ensures.later c.keep.ensures.counted
