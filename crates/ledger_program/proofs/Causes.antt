@@ -10,7 +10,7 @@ use Rattle.ledger_program.specs.Faults.{fault_of}
 use Rattle.ledger_program.specs.Run.{payments, IsJob, IsServed, FailsJob, LocalFails, Unfollowed, Attempted, run_fault_of}
 use Rattle.ledger_program.specs.Served.{served}
 use Rattle.ledger_program.specs.declared.fault.Fault.{Fault}
-use Rattle.ledger_program.specs.declared.fault.Fault.TheVariants.{BadLog, BadValue, Rejected, Full, OutOfMemory as FollowMemory}
+use Rattle.ledger_program.specs.declared.fault.Fault.TheVariants.{Network, RequestChannelClosed, InvalidResponse, UnexpectedResponse, Server, InvalidProof, TooManyStrays, WrongRoot, BadLog, BadValue, Rejected, Full, OutOfMemory as FollowMemory}
 use Rattle.ledger_program.specs.declared.outcome.RunFault.{RunFault}
 use Rattle.ledger_program.specs.declared.outcome.RunFault.TheVariants.{Usage, BadJob, JobRead, JobTooLarge, Dial, Follow, Output, OutOfMemory}
 use Rattle.ledger_settling.specs.Faults.{RunFails}
@@ -46,6 +46,14 @@ attempted form left before now job (BadJob line) e j f = absurd f
 attempted form left before now job JobRead e j f = absurd f
 attempted form left before now job JobTooLarge e j f = absurd f
 attempted form left before now job Dial e j f = absurd f
+attempted form left before now job (Follow Network) e j f = (e, unfollowed left job Network j f)
+attempted form left before now job (Follow RequestChannelClosed) e j f = (e, unfollowed left job RequestChannelClosed j f)
+attempted form left before now job (Follow InvalidResponse) e j f = (e, unfollowed left job InvalidResponse j f)
+attempted form left before now job (Follow (UnexpectedResponse number)) e j f = (e, unfollowed left job (UnexpectedResponse number) j f)
+attempted form left before now job (Follow (Server code text)) e j f = (e, unfollowed left job (Server code text) j f)
+attempted form left before now job (Follow (InvalidProof number)) e j f = (e, unfollowed left job (InvalidProof number) j f)
+attempted form left before now job (Follow TooManyStrays) e j f = (e, unfollowed left job TooManyStrays j f)
+attempted form left before now job (Follow (WrongRoot found)) e j f = (e, unfollowed left job (WrongRoot found) j f)
 attempted form left before now job (Follow (BadLog location)) e j f = (e, unfollowed left job (BadLog location) j f)
 attempted form left before now job (Follow (BadValue location)) e j f = (e, unfollowed left job (BadValue location) j f)
 attempted form left before now job (Follow (Rejected block rejection)) e j f = (e, unfollowed left job (Rejected block rejection) j f)

@@ -1,9 +1,13 @@
 -- The line that says why a run failed.
-use Rattle.std.specs.Prelude.{ℕ, ◌++◌, List, [], ◌∷◌, codes}
+use Rattle.std.specs.Prelude.{ℕ, ◌++◌, ◌&&◌, nat_le, List, [], ◌∷◌, codes, if◌then◌else◌}
 use Rattle.std.specs.Fmt.{decimal}
+use Rattle.std.specs.List.{flat_map}
+use Rattle.hex.specs.Hex.{encode_lower}
+use Rattle.sync_net.specs.declared.code.ErrorCode.{ErrorCode}
+use Rattle.sync_net.specs.declared.code.ErrorCode.TheVariants.{InvalidRequest, DatabaseError, NetworkError, StaleTarget, Timeout, InternalError}
 use Rattle.ledger_program.specs.Text.{key_text}
 use Rattle.ledger_program.specs.declared.fault.Fault.{Fault}
-use Rattle.ledger_program.specs.declared.fault.Fault.TheVariants.{BadLog, BadValue, Rejected, Full, OutOfMemory}
+use Rattle.ledger_program.specs.declared.fault.Fault.TheVariants.{Network, RequestChannelClosed, InvalidResponse, UnexpectedResponse, Server, InvalidProof, TooManyStrays, WrongRoot, BadLog, BadValue, Rejected, Full, OutOfMemory}
 use Rattle.ledger_program.specs.declared.outcome.RunFault.{RunFault}
 use Rattle.ledger_program.specs.declared.outcome.RunFault.TheVariants.{Usage, BadJob, JobRead, JobTooLarge, Dial, Follow, Output, OutOfMemory as NoMemory}
 use Rattle.ledger_transfers.specs.declared.fault.Rejection.{Rejection}
@@ -23,8 +27,43 @@ rejection_line block (Refused key) = key_line (codes "refused") block key
 rejection_line block (Insufficient key) = key_line (codes "insufficient") block key
 rejection_line block (Overflow key) = key_line (codes "overflow") block key
 
+-- the number of a code
+abbrev pub code_number : ErrorCode → ℕ
+code_number InvalidRequest = 0
+code_number DatabaseError = 1
+code_number NetworkError = 2
+code_number StaleTarget = 3
+code_number Timeout = 4
+code_number InternalError = 5
+
+-- what a byte of a text prints as: itself from space to `~`, nothing behind a character's first byte, else `?`
+abbrev pub printed_byte : ℕ → List ℕ
+printed_byte b =
+    if nat_le 32 b && nat_le b 126 then b ∷ [] else
+    (if nat_le 128 b && nat_le b 191 then [] else 63 ∷ [])
+
+-- a text whose characters outside space to `~` print as `?`
+abbrev pub printable : List ℕ → List ℕ
+printable text = flat_map printed_byte text
+
+-- the line of a server's refusal
+unfoldable pub server_line : ErrorCode → List ℕ → List ℕ
+server_line code message = codes "error server " ++ decimal (code_number code) ++ codes " " ++ printable message ++ 10 ∷ []
+
+-- the line of a root that isn't the target's
+unfoldable pub root_line : List ℕ → List ℕ
+root_line found = codes "error root " ++ encode_lower found ++ 10 ∷ []
+
 -- the line of a fault of following a log
 abbrev pub follow_line : Fault → List ℕ
+follow_line Network = codes "error network\n"
+follow_line RequestChannelClosed = codes "error closed\n"
+follow_line InvalidResponse = codes "error response\n"
+follow_line (UnexpectedResponse number) = number_line (codes "unexpected") number
+follow_line (Server code message) = server_line code message
+follow_line (InvalidProof number) = number_line (codes "proof") number
+follow_line TooManyStrays = codes "error strays\n"
+follow_line (WrongRoot found) = root_line found
 follow_line (BadLog location) = number_line (codes "log") location
 follow_line (BadValue location) = number_line (codes "value") location
 follow_line (Rejected block rejection) = rejection_line block rejection

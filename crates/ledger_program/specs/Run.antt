@@ -18,7 +18,7 @@ use Rattle.ledger_program.specs.Served.{served}
 use Rattle.ledger_program.specs.Text.{text_of}
 use Rattle.ledger_program.specs.Writing.{AppendsFront}
 use Rattle.ledger_program.specs.declared.fault.Fault.{Fault}
-use Rattle.ledger_program.specs.declared.fault.Fault.TheVariants.{BadLog, BadValue, Rejected, Full, OutOfMemory as FollowMemory}
+use Rattle.ledger_program.specs.declared.fault.Fault.TheVariants.{Network, RequestChannelClosed, InvalidResponse, UnexpectedResponse, Server, InvalidProof, TooManyStrays, WrongRoot, BadLog, BadValue, Rejected, Full, OutOfMemory as FollowMemory}
 use Rattle.ledger_program.specs.declared.outcome.RunFault.{RunFault}
 use Rattle.ledger_program.specs.declared.outcome.RunFault.TheVariants.{Usage, BadJob, JobRead, JobTooLarge, Dial, Follow, Output, OutOfMemory}
 use Rattle.ledger_settling.specs.Blocks.{Meaning, meaning}
@@ -141,6 +141,14 @@ has_report (Some fault) = false
 
 -- the status of a fault of following a log
 abbrev pub follow_status : Fault → ℕ
+follow_status Network = 7
+follow_status RequestChannelClosed = 7
+follow_status InvalidResponse = 7
+follow_status (UnexpectedResponse number) = 7
+follow_status (Server code message) = 7
+follow_status TooManyStrays = 7
+follow_status (InvalidProof number) = 8
+follow_status (WrongRoot found) = 8
 follow_status (BadLog location) = 8
 follow_status (BadValue location) = 8
 follow_status (Rejected block rejection) = 9

@@ -22,7 +22,8 @@ pub enum RunFault {
     JobTooLarge,
     /// The dial failed. Status 6.
     Dial,
-    /// The log wasn't followed. Status 8 for a log that is none, 9 for a block that doesn't settle.
+    /// The log wasn't followed. Status 7 for what the link gave, 8 for a part that isn't proved or is no log, 9 for
+    /// a block that doesn't settle.
     Follow(Fault),
     /// The sink failed while the report was written. Status 10.
     Output,
@@ -62,7 +63,16 @@ fn follow_status(fault: &Fault) -> u8
     ensures { result ≡ follow_status fault.now }
 {
     match fault {
-        Fault::BadLog { .. } | Fault::BadValue { .. } => 8,
+        Fault::Network
+        | Fault::RequestChannelClosed
+        | Fault::InvalidResponse
+        | Fault::UnexpectedResponse { .. }
+        | Fault::Server { .. }
+        | Fault::TooManyStrays => 7,
+        Fault::InvalidProof { .. }
+        | Fault::WrongRoot { .. }
+        | Fault::BadLog { .. }
+        | Fault::BadValue { .. } => 8,
         Fault::Rejected { .. } | Fault::Full { .. } => 9,
         Fault::OutOfMemory => 11,
     }

@@ -1,10 +1,14 @@
 //! Runs over jobs in memory. Roots and texts are those of tests/reference.py.
 use super::*;
-use ledger_codec::{MemorySink, MemorySource};
+use crate::error_line::error_line;
+use crate::outcome::status_of;
+use crate::reading::{ReadFault, read_all};
+use ledger_codec::{MemorySink, MemorySource, Sink, SinkError, Text};
+use std::process::Abort;
 use std::random::RandomSource;
 use std::test::Fail;
 use std::thread::Threads;
-use sync_net::{DialFailed, Dialer, Link, LinkError};
+use sync_net::{DialFailed, Dialer, ErrorCode, Link, LinkError};
 
 /// A dialer that is never called.
 #[derive(Drop)]
@@ -39,6 +43,30 @@ impl Dialer for Nowhere {
 
     fn dial(&mut self, _address: &str) -> Result<(), DialFailed> {
         Err(DialFailed)
+    }
+}
+
+/// A sink that takes the first byte of each piece alone.
+#[derive(Drop)]
+struct ByteByByte {
+    bytes: Vec<u8>,
+}
+
+impl Sink for ByteByByte {
+    ghost use Rattle.std.specs.Prelude.{Some};
+
+    ghost written = { λ s. Some s.bytes.items };
+
+    ghost faults = { λ _. 0 };
+
+    fn write(&mut self, bytes: &[u8]) -> Result<usize, SinkError> {
+        let Some(first) = bytes.first() else {
+            return Ok(0);
+        };
+        match self.bytes.push(*first) {
+            Ok(()) => Ok(1),
+            Err(_) => Err(SinkError::OutOfMemory),
+        }
     }
 }
 
@@ -138,4 +166,123 @@ fn the_least_offending_line_is_named(rt: HostRuntime) -> Result<(), Fail> {
         assert_eq!(rt; printed.as_str(), line);
     }
     Ok(())
+}
+
+#[test]
+fn a_sink_that_takes_one_byte_at_a_time_gets_the_same_text(rt: HostRuntime) -> Result<(), Fail> {
+    let alloc = rt.alloc();
+    let mut words = Vec::new(alloc);
+    words.push(String::from_str(alloc, "local")?)?;
+    let mut source = MemorySource::new(FIRST.as_bytes().to_vec(alloc)?, Vec::new(alloc));
+    let mut sink = ByteByByte {
+        bytes: Vec::new(alloc),
+    };
+    let outcome = run(&rt, alloc, &words, &mut source, &mut Nowhere, &mut sink);
+    let mut whole = String::new(alloc);
+    let status = local(&rt, FIRST, &[], &[], &mut whole)?;
+    assert_eq!(rt; outcome.status, 0);
+    assert_eq!(rt; status, 0);
+    assert!(rt; sink.bytes.as_slice() == whole.as_bytes());
+    Ok(())
+}
+
+#[test]
+fn each_read_can_fail_in_turn(rt: HostRuntime) -> Result<(), Fail> {
+    for (failing, status) in [(0, 4), (1, 4), (2, 0)] {
+        let mut printed = String::new(rt.alloc());
+        assert_eq!(rt; local(&rt, FIRST, &[failing], &[], &mut printed)?, status);
+    }
+    Ok(())
+}
+
+#[test]
+fn each_write_can_fail_in_turn(rt: HostRuntime) -> Result<(), Fail> {
+    for (failing, status) in [(0, 10), (1, 0)] {
+        let mut printed = String::new(rt.alloc());
+        assert_eq!(rt; local(&rt, FIRST, &[], &[failing], &mut printed)?, status);
+    }
+    Ok(())
+}
+
+/// Whether a source of `held` bytes is read to its end with a limit of 5000.
+fn fits<R: AllocGlobal + Abort>(rt: &R, held: usize) -> Result<bool, Fail> {
+    let alloc = rt.alloc();
+    let mut bytes = Vec::new(alloc);
+    for _ in 0..held {
+        bytes.push(b'a')?;
+    }
+    let mut source = MemorySource::new(bytes, Vec::new(alloc));
+    match read_all(alloc, &mut source, 5000) {
+        Ok(read) => Ok(read.len() == held),
+        Err(fault) => {
+            assert_eq!(rt; fault, ReadFault::TooLarge);
+            Ok(false)
+        }
+    }
+}
+
+#[test]
+fn a_source_is_read_up_to_the_limit(rt: HostRuntime) -> Result<(), Fail> {
+    for (held, read) in [
+        (0, true),
+        (4096, true),
+        (5000, true),
+        (5001, false),
+        (9000, false),
+    ] {
+        assert_eq!(rt; fits(&rt, held)?, read);
+    }
+    Ok(())
+}
+
+/// Checks the status and the line of a fault of following a log.
+fn prints<R: AllocGlobal + Abort>(
+    rt: &R,
+    fault: Fault,
+    status: u8,
+    line: &str,
+) -> Result<(), Fail> {
+    let fault = RunFault::Follow(fault);
+    assert_eq!(rt; status_of(&fault), status);
+    assert_eq!(rt; error_line(rt.alloc(), &fault)?.as_str(), line);
+    Ok(())
+}
+
+#[test]
+fn what_a_link_gave_has_its_line(rt: HostRuntime) -> Result<(), Fail> {
+    prints(&rt, Fault::Network, 7, "error network\n")?;
+    prints(&rt, Fault::RequestChannelClosed, 7, "error closed\n")?;
+    prints(&rt, Fault::InvalidResponse, 7, "error response\n")?;
+    prints(
+        &rt,
+        Fault::UnexpectedResponse { request_id: 12 },
+        7,
+        "error unexpected 12\n",
+    )?;
+    prints(&rt, Fault::TooManyStrays, 7, "error strays\n")
+}
+
+#[test]
+fn what_is_not_proved_has_its_line(rt: HostRuntime) -> Result<(), Fail> {
+    prints(
+        &rt,
+        Fault::InvalidProof { request_id: 3 },
+        8,
+        "error proof 3\n",
+    )?;
+    let found = [0xAB; 32];
+    let line = "error root abababababababababababababababababababababababababababababababab\n";
+    prints(&rt, Fault::WrongRoot { found }, 8, line)
+}
+
+#[test]
+fn a_server_s_text_is_printed_safely(rt: HostRuntime) -> Result<(), Fail> {
+    let code = ErrorCode::StaleTarget;
+    let message = Text::from_string(String::from_str(rt.alloc(), "a~ \u{7f}\u{e9}\u{1F600}\n!")?);
+    prints(
+        &rt,
+        Fault::Server { code, message },
+        7,
+        "error server 3 a~ ????!\n",
+    )
 }
