@@ -1,0 +1,14 @@
+pub mod Insides
+pub mod Tiling
+pub mod Proving
+pub mod Chains
+pub mod Unique
+pub mod Places
+pub mod Sending
+pub mod Bridge
+pub mod Rising
+pub mod Stepping
+pub mod Shortness
+pub mod Sameness
+pub mod Turning
+pub mod Closing

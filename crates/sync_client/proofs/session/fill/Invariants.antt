@@ -1,0 +1,21 @@
+use Rattle.std.proofs.Common.{◌≡◌, ◌-◌, ℕ, length, IsTrue}
+use Rattle.sync_client.specs.Ending.{Origin, Came}
+use Rattle.sync_client.specs.Seen.{seen, Paired}
+use Rattle.sync_client.specs.Session.{rules_for}
+use Rattle.sync_client.specs.Tiles.{Tiles}
+use Rattle.sync_client.proofs.session.fill.Given as goal
+
+abbrev pub invariant-loop-frame : goal.invariant-loop-frame
+invariant-loop-frame g l =
+    record {
+      plan : l.collector.plan ≡ l.fn.collector.plan;
+      kept : l.collector.kept ≡ l.fn.collector.kept;
+      paired : Paired l.machine l.collector;
+      tiles : Tiles l.collector;
+      exact : IsTrue g.L.Link.exact → g.L.Link.faults l.link ≡ g.L.Link.faults l.fn.link;
+      steady : g.L.Link.steady l.fn.link → g.L.Link.steady l.link × (g.L.Link.faults l.link ≡ g.L.Link.faults l.fn.link);
+      came : (o : Origin g.row.Op.Denot) (strays : ℕ) → o.rules ≡ rules_for g.Op.Spell.reading g.Op.Spell.written g.Op.Leaf.spelling l.fn.target → Came o (seen l.fn.machine l.fn.collector strays) l.fn.machine.held l.fn.machine.closed (g.L.Link.wire l.fn.link) (g.L.Link.faults l.fn.link) → Came o (seen l.machine l.collector strays) l.machine.held l.machine.closed (g.L.Link.wire l.link) (g.L.Link.faults l.link);
+    }
+
+abbrev pub decreases-loop-frame : goal.decreases-loop-frame
+decreases-loop-frame g l = l.collector.plan.limits.outstanding - length l.collector.pending

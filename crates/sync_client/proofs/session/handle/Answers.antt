@@ -1,0 +1,92 @@
+use Rattle.std.proofs.Common.{◌≡◌, ◌∙◌, ◌<◌, ◌≤◌, ◌+◌, ◌++◌, ap, sym, subst, refl, ℕ, List, length, false, arith, length-append}
+use Rattle.ledger_codec.specs.Frames.{Short, front}
+use Rattle.sync_net.specs.View.{MachineView}
+use Rattle.sync_client.specs.Collected.{Collected}
+use Rattle.sync_client.specs.Ending.{Came, handled}
+use Rattle.sync_client.specs.Seen.{seen}
+use Rattle.sync_client.specs.Session.{State, Rules, ask_next, is_whole, rules_for}
+use Rattle.sync_client.specs.Tiles.{Tiles}
+use Rattle.sync_client.proofs.Rising.{rises, taking_keeps}
+use Rattle.sync_client.proofs.Shortness.{short_held}
+use Rattle.sync_client.proofs.Turning.{kept_most, take_stops, took, recv_stops, recv_came, same_seen}
+use Rattle.sync_client.proofs.session.handle.Goals as goal
+
+pub loop-fault-init : goal.loop-fault-init
+loop-fault-init g c =
+    record { room = c.requires.room; collector = refl; strays = refl; machine = (c.args.machine.now.held, refl); exact = λ e. refl; steady = λ s. (s, refl); came = λ o r k. k }
+
+pub returns-in-Ok-true-clause-rises : goal.returns-in-Ok-true-clause-rises
+returns-in-Ok-true-clause-rises g c =
+    let i = c.loop-fault.invariant in
+    let rules : Rules g.row.Op.Denot = rules_for g.Op.Spell.reading g.Op.Spell.written g.Op.Leaf.spelling c.loop-fault.collector.plan.target in
+    let h = rw c.in-Ok-true.field-0-test at c.in-Ok-true.ensures.takes in
+    let same = same_seen c.loop-fault.machine c.args.machine.now c.loop-fault.collector c.args.collector.now c.loop-fault.strays c.args.strays.now i.machine.0 i.machine.1 i.collector i.strays in
+    let up : handled (seen c.loop-fault.machine c.loop-fault.collector c.loop-fault.strays) < handled (seen c.take_next.new.machine c.take_next.new.collector c.take_next.new.strays) = rises rules (seen c.loop-fault.machine c.loop-fault.collector c.loop-fault.strays) (seen c.take_next.new.machine c.take_next.new.collector c.take_next.new.strays) h.0 h.2 in
+    subst (λ (s : State g.row.Op.Denot). handled s < handled (seen c.take_next.new.machine c.take_next.new.collector c.take_next.new.strays)) same up
+
+pub returns-in-Ok-true-clause-strays : goal.returns-in-Ok-true-clause-strays
+returns-in-Ok-true-clause-strays g c q =
+    let i = c.loop-fault.invariant in
+    let rules : Rules g.row.Op.Denot = rules_for g.Op.Spell.reading g.Op.Spell.written g.Op.Leaf.spelling c.loop-fault.collector.plan.target in
+    let h = rw c.in-Ok-true.field-0-test at c.in-Ok-true.ensures.takes in
+    let k = taking_keeps rules (seen c.loop-fault.machine c.loop-fault.collector c.loop-fault.strays) (seen c.take_next.new.machine c.take_next.new.collector c.take_next.new.strays) h.0 h.2 in
+    k.1 (subst (λ (n : ℕ). n ≤ 1024) (sym i.strays) q)
+
+pub returns-in-Ok-true-clause-handled : goal.returns-in-Ok-true-clause-handled
+returns-in-Ok-true-clause-handled g c o r k nothing more =
+    let i = c.loop-fault.invariant in
+    let rules : Rules g.row.Op.Denot = rules_for g.Op.Spell.reading g.Op.Spell.written g.Op.Leaf.spelling c.loop-fault.collector.plan.target in
+    let h = rw c.in-Ok-true.field-0-test at c.in-Ok-true.ensures.takes in
+    let same = same_seen c.loop-fault.machine c.args.machine.now c.loop-fault.collector c.args.collector.now c.loop-fault.strays c.args.strays.now i.machine.0 i.machine.1 i.collector i.strays in
+    let r2 : o.rules ≡ rules = r ∙ ap (λ (v : Collected g.row.Op.Denot). rules_for g.Op.Spell.reading g.Op.Spell.written g.Op.Leaf.spelling v.plan.target) (sym i.collector) in
+    let came = subst (λ (s : State g.row.Op.Denot). Came o s c.loop-fault.machine.held c.loop-fault.machine.closed (g.L.Link.wire c.loop-fault.link) (g.L.Link.faults c.loop-fault.link)) (sym same) (i.came o r k) in
+    took o rules c.loop-fault.machine c.take_next.new.machine c.loop-fault.collector c.take_next.new.collector c.loop-fault.strays c.take_next.new.strays (g.L.Link.wire c.loop-fault.link) (g.L.Link.faults c.loop-fault.link) h r2 came (ap ask_next same ∙ nothing) (ap is_whole same ∙ more)
+
+pub returns-in-Err-clause-handled : goal.returns-in-Err-clause-handled
+returns-in-Err-clause-handled g c o r k nothing more =
+    let i = c.loop-fault.invariant in
+    let rules : Rules g.row.Op.Denot = rules_for g.Op.Spell.reading g.Op.Spell.written g.Op.Leaf.spelling c.loop-fault.collector.plan.target in
+    let same = same_seen c.loop-fault.machine c.args.machine.now c.loop-fault.collector c.args.collector.now c.loop-fault.strays c.args.strays.now i.machine.0 i.machine.1 i.collector i.strays in
+    let r2 : o.rules ≡ rules = r ∙ ap (λ (v : Collected g.row.Op.Denot). rules_for g.Op.Spell.reading g.Op.Spell.written g.Op.Leaf.spelling v.plan.target) (sym i.collector) in
+    let came = subst (λ (s : State g.row.Op.Denot). Came o s c.loop-fault.machine.held c.loop-fault.machine.closed (g.L.Link.wire c.loop-fault.link) (g.L.Link.faults c.loop-fault.link)) (sym same) (i.came o r k) in
+    take_stops o rules c.loop-fault.machine c.take_next.new.machine c.loop-fault.collector c.take_next.new.collector c.loop-fault.strays c.take_next.new.strays c.in-Err.fault (g.L.Link.wire c.loop-fault.link) (g.L.Link.faults c.loop-fault.link) c.in-Err.ensures.takes r2 came (ap ask_next same ∙ nothing) (ap is_whole same ∙ more)
+    (subst (λ (v : Collected g.row.Op.Denot). Tiles v) (sym i.collector) c.requires.tiles)
+
+pub loop-fault-smaller : goal.loop-fault-smaller
+loop-fault-smaller g c =
+    let t = rw c.in-Ok-false.field-0-test at c.in-Ok-false.ensures.takes in
+    let h = c.in-Ok.ensures.receives in
+    let short : length c.loop-fault.machine.held < 10485766 = short_held 10485760 c.loop-fault.machine.held t.0 in
+    let same : length c.take_next.new.machine.held ≡ length c.loop-fault.machine.held = ap (λ (v : MachineView). length v.held) t.2 in
+    let grown : length c.receive.new.machine.held ≡ length c.take_next.new.machine.held + length h.0 = ap (λ (v : MachineView). length v.held) h.2 ∙ length-append c.take_next.new.machine.held h.0 in
+    let some : 0 < length h.0 = h.1 in
+    omega (arith, short, same, grown, some)
+
+pub loop-fault-preserved : goal.loop-fault-preserved
+loop-fault-preserved g c =
+    let i = c.loop-fault.invariant in
+    let t = rw c.in-Ok-false.field-0-test at c.in-Ok-false.ensures.takes in
+    let h = c.in-Ok.ensures.receives in
+    let live : c.take_next.new.machine.closed ≡ false = ap (λ (v : MachineView). v.closed) t.2 ∙ t.1 in
+    let held : List ℕ = c.take_next.new.machine.held ++ h.0 in
+    record {
+      room = omega (arith, i.room, c.receive.auto.buffer);
+      collector = t.3 ∙ i.collector;
+      strays = t.4 ∙ i.strays;
+      machine = (held, h.2 ∙ ap (λ (v : MachineView). let w : MachineView = record v { held = held } in w) (t.2 ∙ i.machine.1));
+      exact = λ e. c.in-Ok.ensures.exact e ∙ i.exact e;
+      steady = λ e. (let r = c.in-Ok.ensures.steady (i.steady e).0 in (r.0, r.1 ∙ (i.steady e).1));
+      came = λ o r k.
+          let before = subst (λ (v : MachineView). Came o (seen c.args.machine.now c.args.collector.now c.args.strays.now) v.held v.closed (g.L.Link.wire c.loop-fault.link) (g.L.Link.faults c.loop-fault.link)) (sym t.2) (i.came o r k) in
+          recv_came o (seen c.args.machine.now c.args.collector.now c.args.strays.now) c.take_next.new.machine c.receive.new.machine c.in-Ok.field-0 (g.L.Link.wire c.loop-fault.link) (g.L.Link.wire c.receive.new.link) (g.L.Link.faults c.loop-fault.link) (g.L.Link.faults c.receive.new.link) h live before;
+    }
+
+pub returns-in-Err-receive-clause-handled : goal.returns-in-Err-receive-clause-handled
+returns-in-Err-receive-clause-handled g c o r k nothing more =
+    let i = c.loop-fault.invariant in
+    let t = rw c.in-Ok-false.field-0-test at c.in-Ok-false.ensures.takes in
+    let live : c.take_next.new.machine.closed ≡ false = ap (λ (v : MachineView). v.closed) t.2 ∙ t.1 in
+    let short : front 10485760 c.take_next.new.machine.held ≡ Short = ap (λ (v : MachineView). front 10485760 v.held) t.2 ∙ t.0 in
+    let before = subst (λ (v : MachineView). Came o (seen c.args.machine.now c.args.collector.now c.args.strays.now) v.held v.closed (g.L.Link.wire c.loop-fault.link) (g.L.Link.faults c.loop-fault.link)) (sym t.2) (i.came o r k) in
+    recv_stops o (seen c.args.machine.now c.args.collector.now c.args.strays.now) c.take_next.new.machine c.receive.new.machine c.in-Err-receive.fault (g.L.Link.wire c.loop-fault.link) (g.L.Link.wire c.receive.new.link) (g.L.Link.faults c.loop-fault.link) (g.L.Link.faults c.receive.new.link)
+    c.in-Err-receive.ensures.receives short live before nothing more (kept_most c.args.collector.now c.requires.tiles)

@@ -1,0 +1,12 @@
+pub mod Asking
+pub mod Collected
+pub mod Tiles
+pub mod Parts
+pub mod Told
+pub mod Session
+pub mod Seen
+pub mod Runs
+pub mod Steps
+pub mod Ending
+pub mod Counts
+pub mod Turns

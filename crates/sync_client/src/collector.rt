@@ -1,0 +1,223 @@
+//! Which ranges are asked, and the operations that came.
+ghost use Rattle.std.specs.Prelude.{◌≡◌, ◌+◌, ◌-◌, ◌<◌, ◌≤◌, ◌^◌, ◌∷◌, ◌++◌, [], List as Items, true, length, count_ones, IfOk, IfSome, OnOk, OnErr};
+ghost use Rattle.sha2.specs.Sha256.{sha256};
+ghost use Rattle.sync_client.specs.Asking.{range_ok, rest_of};
+ghost use Rattle.sync_client.specs.Collected.{opening, is_complete, IsOutstanding, nothing_left};
+ghost use Rattle.sync_client.specs.Parts.{Assembles};
+ghost use Rattle.sync_client.specs.Tiles.{Tiles};
+ghost use Rattle.sync_client.specs.Told.{Asks, Accepts, Finishes};
+
+use crate::fault::CollectFault;
+use crate::joining::{operations, root_behind};
+use crate::judging::{is_good, put_nodes};
+use crate::limits::Limits;
+use crate::ranges::{end_of_batch, forget, move_first};
+use ledger_codec::{Digest, List, OutOfMemory};
+use ledger_log::Target;
+use ledger_merkle::{Leaf, Location, Part};
+use std::alloc::Global;
+use std::marker::Model;
+use std::ops::Range;
+use sync_net::GetOperationsResponse;
+
+/// Operations from a place on, as one answer brought them.
+#[derive(Drop)]
+pub struct Piece<Op> {
+    /// The place of the first operation.
+    pub at: Location,
+    /// The operations.
+    pub ops: List<Op>,
+}
+
+/// Asks the target's range piece by piece, and keeps what comes. Pieces stand in the order in which they
+/// came; they are sorted once, when all have.
+#[derive(Drop)]
+pub struct Collector<Op: Leaf + Copy> {
+    alloc: Global,
+    target: Target,
+    limits: Limits,
+    fresh: Location,
+    rests: Vec<Range<Location>>,
+    pending: Vec<Range<Location>>,
+    pinned: List<Digest>,
+    kept: Vec<Piece<Op>>,
+}
+
+impl<Op: Leaf + Copy> Model for Collector<Op> {
+    ghost use Rattle.sync_client.specs.Collected.{Collected};
+    ghost use Rattle.sync_client.specs.Tiles.{Tiles};
+
+    ghost Value = { Collected Op };
+
+    ghost view = { λ c. record {
+      plan = record { target = c.target; limits = c.limits };
+      fresh = c.fresh;
+      rests = c.rests.items;
+      pending = c.pending.items;
+      pinned = c.pinned;
+      kept = c.kept.items;
+    } };
+
+    ghost invariant = { λ c. Tiles (record {
+      plan = record { target = c.target; limits = c.limits };
+      fresh = c.fresh;
+      rests = c.rests.items;
+      pending = c.pending.items;
+      pinned = c.pinned;
+      kept = c.kept.items;
+    }) };
+}
+
+impl<Op: Leaf + Copy> Collector<Op> {
+    /// Nothing is asked.
+    pub fn new(alloc: Global, target: Target, limits: Limits) -> Collector<Op>
+        ensures value { result ≡ opening (record { target = target; limits = limits }) }
+        ensures tiles { Tiles result }
+    {
+        Collector {
+            alloc,
+            target,
+            limits,
+            fresh: target.start,
+            rests: Vec::new(alloc),
+            pending: Vec::new(alloc),
+            pinned: List::from_vec(Vec::new(alloc)),
+            kept: Vec::new(alloc),
+        }
+    }
+
+    /// The range that is asked next: first what short answers left, then a new batch. None where enough
+    /// are under way, or all is asked.
+    #[tactic(auto, unfolding(crate::specs::Collected::ask_next))]
+    pub fn next_ask(&mut self) -> Result<Option<Range<Location>>, OutOfMemory>
+        ensures asks { Asks result self.old self.new }
+        ensures within { IfOk result (λ found. IfSome found (λ r. (r.start < r.end) × (r.end ≤ self.old.plan.target.end))) }
+        ensures outstanding { IfOk result (λ found. IfSome found (λ r. IsOutstanding r self.new.pending)) }
+        ensures tiles { Tiles self.new }
+    {
+        if self.pending.len() >= self.limits.outstanding() {
+            return Ok(None);
+        }
+        if self.rests.len() > 0 {
+            return Ok(Some(move_first(&mut self.rests, &mut self.pending)?));
+        }
+        let start = self.fresh;
+        if start.get() >= self.target.end.get() {
+            return Ok(None);
+        }
+        let end = end_of_batch(start, self.limits.batch(), self.target.end);
+        self.pending.push(Range { start, end })?;
+        self.fresh = end;
+        Ok(Some(Range { start, end }))
+    }
+
+    /// Keeps the answer to a range that is under way. What it leaves of the range is asked again.
+    pub fn accept(
+        &mut self,
+        asked: Range<Location>,
+        request_id: u64,
+        response: GetOperationsResponse<Op>,
+    ) -> Result<(), CollectFault>
+        requires { IsOutstanding asked self.old.pending }
+        ensures accepts { Accepts result (range_ok sha256 Op.spelling self.old.plan.target.root self.old.plan.target.end) asked request_id response self.old self.new }
+        ensures tiles { Tiles self.new }
+    {
+        if !is_good::<Op>(&self.target, &asked, &response) {
+            return Err(CollectFault::InvalidProof { request_id });
+        }
+        let is_first = asked.start.get() == self.target.start.get();
+        match keep(&mut self.kept, &mut self.rests, &asked, response.operations) {
+            Ok(()) => {}
+            Err(OutOfMemory) => return Err(CollectFault::OutOfMemory),
+        }
+        forget(&mut self.pending, &asked);
+        put_nodes(
+            self.alloc,
+            &mut self.pinned,
+            is_first,
+            response.pinned_nodes,
+        );
+        Ok(())
+    }
+
+    /// Whether every location of the range is kept.
+    pub fn is_complete(&self) -> bool
+        ensures value { result ≡ is_complete self.now }
+        ensures tiles { Tiles self.now }
+        ensures most { self.now.plan.target.end ≤ 2 ^ 62 }
+    {
+        is_all_kept(
+            self.pending.len(),
+            self.rests.len(),
+            self.fresh,
+            self.target.end,
+        )
+    }
+
+    /// The part that the kept operations make, which has the target's root.
+    pub fn finish(self) -> Result<Part<Op>, CollectFault>
+        requires { is_complete self ≡ true }
+        ensures finishes { Finishes result sha256 Op.spelling self }
+        ensures whole { IfOk result (λ part. (length part.ops ≡ self.plan.target.end - self.plan.target.start) × (length part.pinned ≡ count_ones self.plan.target.start)) }
+        ensures one { IfOk result (λ part. (ops : Items Op) → Assembles self.plan.target.start self.kept ops → ops ≡ part.ops) }
+    {
+        let Collector {
+            alloc,
+            target,
+            pinned,
+            kept,
+            ..
+        } = self;
+        let count = target.end.get() - target.start.get();
+        let ops = operations(alloc, kept, count as usize)?;
+        let nodes = Vec::from_slice(alloc, pinned.as_slice())?;
+        let found = root_behind::<Op>(alloc, target.start, nodes, &ops)?;
+        if found != target.root {
+            return Err(CollectFault::WrongRoot { found });
+        }
+        Ok(Part {
+            start: target.start,
+            pinned,
+            ops: List::from_vec(ops),
+        })
+    }
+}
+
+/// Whether nothing is asked or left to ask.
+fn is_all_kept(pending: usize, rests: usize, fresh: Location, end: Location) -> bool
+    ensures value { result ≡ nothing_left pending rests fresh end }
+    ensures most { end ≤ 2 ^ 62 }
+{
+    let end = end.get();
+    pending == 0 && rests == 0 && fresh.get() == end
+}
+
+/// Keeps the operations, and what they leave of the range to be asked.
+fn keep<Op: Copy>(
+    kept: &mut Vec<Piece<Op>>,
+    rests: &mut Vec<Range<Location>>,
+    asked: &Range<Location>,
+    ops: List<Op>,
+) -> Result<(), OutOfMemory>
+    requires { asked.now.start + length ops ≤ asked.now.end }
+    ensures ok { OnOk result ((kept.new.items ≡ kept.old.items ++ record { at = asked.now.start; ops = ops } ∷ []) × (rests.new.items ≡ rests.old.items ++ rest_of asked.now (length ops))) }
+    ensures err { OnErr result ((kept.new.items ≡ kept.old.items) × (rests.new.items ≡ rests.old.items)) }
+{
+    let end = asked.end;
+    let most = end.get();
+    let start = asked.start.plus(ops.as_slice().len() as u64);
+    kept.push(Piece {
+        at: asked.start,
+        ops,
+    })?;
+    if start.get() < most {
+        match rests.push(Range { start, end }) {
+            Ok(()) => {}
+            Err(_) => {
+                let _piece = kept.pop();
+                return Err(OutOfMemory);
+            }
+        }
+    }
+    Ok(())
+}
