@@ -1,5 +1,5 @@
 -- What a result is worth.
-use Rattle.std.proofs.Common.{◌≡◌, ◌≤◌, ◌∷◌, ℕ, Bool, List, Option, None, Result, All, length, take, sym, ap, ◌∙◌, subst}
+use Rattle.std.proofs.Common.{◌≡◌, ◌≤◌, ℕ, Bool, List, Option, None, Result, All, length, take, sym, ap, ◌∙◌, subst}
 use Rattle.simulate_parts.specs.Tracker.{tracker_of}
 use Rattle.simulate_parts.specs.TrackerView.{TrackerView}
 use Rattle.simulate_parts.specs.declared.engine.StateView.{StateView}
@@ -8,11 +8,9 @@ use Rattle.simulate_parts.specs.declared.schedule.Crash.{Crash}
 use Rattle.simulate_parts.specs.declared.tracker.FinalizationUpdate.{FinalizationUpdate}
 use Rattle.ledger_simulate.specs.Exercise.{unexercised_from}
 use Rattle.ledger_simulate.specs.Plans.{target_count}
-use Rattle.ledger_simulate.specs.Queue.{QueueView, queued_all}
 use Rattle.ledger_simulate.specs.Reaching.{ExitMet, IsReached}
 use Rattle.ledger_simulate.specs.Results.{ResultView}
-use Rattle.ledger_simulate.specs.Runs.{Advances, Extends, ResultOf, Succeeds}
-use Rattle.ledger_simulate.specs.declared.event.Event.{Event}
+use Rattle.ledger_simulate.specs.Runs.{Extends, ResultOf, Succeeds}
 use Rattle.ledger_simulate.specs.declared.exercise.Exercise.{Exercise}
 use Rattle.ledger_simulate.specs.declared.reports.Reached.{Reached}
 
@@ -43,13 +41,3 @@ held_on complaint ps qs t u xs ys properties trackers states held =
 -- a list that extends another one, by an equal list
 pub extends_to : {X : Type 0} (before after same : List X) → same ≡ after → Extends before after → Extends before same
 extends_to before after same e grown = record { added = grown.added; is = e ∙ grown.is }
-
--- the first event taken off, and those put in that its handling made
-pub advances_by : (before after new : QueueView) (entry : (ℕ × ℕ) × Event) (made : List (ℕ × Event)) → before ≡ record after { entries = entry ∷ after.entries } → new ≡ queued_all after entry.0.0 made → Advances before new
-advances_by before after new entry made taken put = record {
-  entry = entry;
-  rest = after.entries;
-  made = made;
-  first = ap (λ (q : QueueView). q.entries) taken;
-  then = put ∙ ap (λ n. queued_all (record { entries = after.entries; next = n }) entry.0.0 made) (sym (ap (λ (q : QueueView). q.next) taken));
-}

@@ -1,5 +1,11 @@
+pub mod Beginning
 pub mod Each
 pub mod Ends
+pub mod Engines
+pub mod Numbering
 pub mod Outcomes
+pub mod Proceeding
 pub mod Reaches
+pub mod Results
+pub mod Stirring
 pub mod Watching

@@ -1,6 +1,6 @@
 -- Lists that grow at their end, and where a run was over.
-use Rattle.std.proofs.Common.{◌≡◌, ◌≤◌, ◌+◌, ℕ, Bool, List, [], ◌++◌, Option, Result, length, take, sym, ap, ◌∙◌, arith, length-append}
-use Rattle.std.proofs.lemmas.List.{append-nil, take-append-le}
+use Rattle.std.proofs.Common.{◌≡◌, ◌≤◌, ◌+◌, ℕ, Bool, List, [], ◌∷◌, ◌++◌, Option, Result, length, take, sym, ap, ◌∙◌, arith, length-append}
+use Rattle.std.proofs.lemmas.List.{append-nil, append_assoc, take-append-le}
 use Rattle.simulate_parts.specs.Tracker.{tracker_of}
 use Rattle.simulate_parts.specs.TrackerView.{TrackerView}
 use Rattle.simulate_parts.specs.declared.engine.StateView.{StateView}
@@ -23,3 +23,8 @@ still_reached verdict condition required target before after more reached grown 
       within = omega arith;
       tracker = at.tracker ∙ ap tracker_of (sym (ap (take reached.count) grown ∙ take-append-le reached.count before more inside));
     }
+
+-- one report more of those that are left
+pub updates_more : (now new start all rest left : List FinalizationUpdate) (u : FinalizationUpdate) → now ++ rest ≡ start ++ all → rest ≡ u ∷ left → new ≡ now ++ u ∷ [] → new ++ left ≡ start ++ all
+updates_more now new start all rest left u so_far taken grown =
+    ap (λ us. us ++ left) grown ∙ append_assoc now (u ∷ []) left ∙ ap (λ us. now ++ us) (sym taken) ∙ so_far

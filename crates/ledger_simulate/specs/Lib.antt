@@ -1,6 +1,8 @@
 pub mod Exercise
+pub mod Handling
 pub mod Links
 pub mod Messages
+pub mod Opening
 pub mod Plans
 pub mod Queue
 pub mod Reaching

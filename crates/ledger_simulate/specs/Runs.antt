@@ -1,33 +1,48 @@
 -- What a step does to a run, and what a result is worth.
-use Rattle.std.specs.Prelude.{◌≡◌, ◌≤◌, ℕ, Bool, List, ◌∷◌, ◌++◌, Option, None, Result, All, length, take}
+use Rattle.std.specs.Prelude.{◌≡◌, ◌≤◌, ℕ, Bool, List, ◌∷◌, ◌++◌, Option, None, Result, All, length, map, take}
+use Rattle.std.specs.BTreeMap.Range.{IsLtBy}
 use Rattle.simulate_parts.specs.Tracker.{tracker_of}
 use Rattle.simulate_parts.specs.TrackerView.{TrackerView}
 use Rattle.simulate_parts.specs.declared.engine.StateView.{StateView}
+use Rattle.simulate_parts.specs.declared.engine.StepEvent.{StepEvent}
+use Rattle.simulate_parts.specs.declared.engine.StepOut.{StepOut}
 use Rattle.simulate_parts.specs.declared.peer.Peer.{Peer}
 use Rattle.simulate_parts.specs.declared.schedule.Crash.{Crash}
 use Rattle.ledger_simulate.specs.Exercise.{unexercised_from}
+use Rattle.ledger_simulate.specs.Handling.{Grows, Handles, Seated}
 use Rattle.ledger_simulate.specs.Plans.{target_count}
-use Rattle.ledger_simulate.specs.Queue.{QueueView, queued_all}
+use Rattle.ledger_simulate.specs.Queue.{AgendaView, NumberedBelow, QueueView, empty_agenda, key_cmp, queued_all}
 use Rattle.ledger_simulate.specs.Reaching.{ExitMet}
 use Rattle.ledger_simulate.specs.Results.{ResultView}
 use Rattle.simulate_parts.specs.declared.tracker.FinalizationUpdate.{FinalizationUpdate}
 use Rattle.ledger_simulate.specs.declared.event.Event.{Event}
 use Rattle.ledger_simulate.specs.declared.exercise.Exercise.{Exercise}
 use Rattle.ledger_simulate.specs.declared.reports.Reached.{Reached}
+use Rattle.ledger_simulate.specs.declared.world.World.{World}
 
 -- a list that has grown at its end alone
 pub record Extends {X : Type 0} (before after : List X) : Type 0 where
   pub added : List X
   pub is : after ≡ before ++ added
 
--- the first event has left the queue and the others stay; the events that its handling made, each so long
--- after it, have the next numbers
-pub record Advances (before after : QueueView) : Type 0 where
-  pub entry : (ℕ × ℕ) × Event
+-- the first event by time, then by number, has left the queue and the others stay; the events that its
+-- handling made, each so long after it, have the next numbers, which are above all earlier ones
+pub record Advances (entry : (ℕ × ℕ) × Event) (made : List (ℕ × Event)) (before after : QueueView) : Type 0 where
   pub rest : List ((ℕ × ℕ) × Event)
-  pub made : List (ℕ × Event)
   pub first : before.entries ≡ entry ∷ rest
+  pub least : All (IsLtBy key_cmp entry.0) (map (λ e. e.0) rest)
+  pub numbered : NumberedBelow before.next before.entries
   pub then : after ≡ queued_all (record { entries = rest; next = before.next }) entry.0.0 made
+
+-- one event was handled, and the run goes on: the event left the queue, those that were made are queued, and
+-- the reports and the world are what the handling left
+pub record Proceeds {D E S : Type 0} (peer_of : E → Peer) (journal : Option (E → List (StepEvent × StepOut))) (reports : Option (FinalizationUpdate → Bool)) (before after : QueueView) (us vs : List FinalizationUpdate) (u v : World D E S) : Type 0 where
+  pub entry : (ℕ × ℕ) × Event
+  pub agenda : AgendaView
+  pub advances : Advances entry agenda.events before after
+  pub handles : Handles peer_of journal reports entry.0 entry.1 (empty_agenda before.next) agenda us vs u v
+  pub seated : Seated peer_of before.next u.seats.entries → Seated peer_of after.next v.seats.entries
+  pub grows : Seated peer_of before.next u.seats.entries → Grows reports us vs
 
 -- the exit condition answered true on the result's own tracker and states, of a first part of its reports,
 -- every property holds, and each configured failure came to something

@@ -1,6 +1,7 @@
 //! The events of a run that are still to come.
-ghost use Rattle.std.specs.Prelude.{◌≡◌, ◌∷◌, [], IfNone, IfSome, OnErr, OnOk};
-ghost use Rattle.ledger_simulate.specs.Queue.{first_key, queued, queued_all};
+ghost use Rattle.std.specs.Prelude.{◌≡◌, ◌∷◌, [], All, IfNone, IfSome, OnErr, OnOk, map};
+ghost use Rattle.std.specs.BTreeMap.Range.{IsLtBy};
+ghost use Rattle.ledger_simulate.specs.Queue.{NumberedBelow, first_key, key_cmp, queued, queued_all};
 
 use crate::event::Event;
 use ledger_codec::OutOfMemory;
@@ -16,11 +17,13 @@ pub struct Queue {
 }
 
 impl Model for Queue {
-    ghost use Rattle.ledger_simulate.specs.Queue.{QueueView};
+    ghost use Rattle.ledger_simulate.specs.Queue.{NumberedBelow, QueueView};
 
     ghost Value = { QueueView };
 
     ghost view = { λ q. record { entries = q.entries.entries; next = q.next } };
+
+    ghost invariant = { λ q. NumberedBelow q.next q.entries.entries };
 }
 
 impl Queue {
@@ -57,6 +60,8 @@ impl Queue {
     /// Takes the first event off.
     pub fn take(&mut self) -> Option<((u64, u64), Event)>
         ensures taken { IfSome result (λ e. self.old ≡ record self.new { entries = e ∷ self.new.entries }) }
+        ensures least { IfSome result (λ e. All (IsLtBy key_cmp e.0) (map (λ x. x.0) self.new.entries)) }
+        ensures numbered { NumberedBelow self.old.next self.old.entries }
         ensures empty { IfNone result (self.new ≡ self.old) }
         ensures none { IfNone result (self.old.entries ≡ []) }
     {

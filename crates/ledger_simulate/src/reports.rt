@@ -1,6 +1,7 @@
 //! What the reports of a step set off.
 ghost use Rattle.std.specs.Prelude.{◌≡◌, ◌++◌, ◌∷◌, [], IfErr, IfOk, IfSome, IsTrue, OnOk};
 ghost use Rattle.simulate_parts.specs.Engine.{updates_of};
+ghost use Rattle.ledger_simulate.specs.Handling.{Disturbs};
 ghost use Rattle.ledger_simulate.specs.Plans.{target_count};
 ghost use Rattle.ledger_simulate.specs.Reaching.{IsReached};
 ghost use Rattle.ledger_simulate.specs.Stops.{stops_late};
@@ -87,6 +88,7 @@ fn take_report<D: EngineDefinition>(
     agenda: &mut Agenda,
     update: FinalizationUpdate,
 ) -> Result<Option<Reached>, Stop>
+    ensures disturbs { OnOk result (Disturbs (D.peer_of plan.now.engine) agenda.old agenda.new world.old world.new) }
     ensures updates { OnOk result (watch.new ≡ watch.old ++ update ∷ []) }
     ensures reached { IfOk result (λ o. IfSome o (λ r. IsReached (λ c. exit_verdict c) plan.now.exit_condition plan.now.required_finalizations (target_count plan.now.participants plan.now.crashes world.new.exercise.delayed_started) watch.new r)) }
     ensures late { IfErr result (λ s. IsTrue (stops_late s)) }
@@ -172,6 +174,7 @@ fn next_report<D: EngineDefinition>(
     update: FinalizationUpdate,
 ) -> Result<Option<Reached>, Stop>
     requires { IfSome reached (λ r. IsReached (λ c. exit_verdict c) plan.now.exit_condition plan.now.required_finalizations (target_count plan.now.participants plan.now.crashes world.old.exercise.delayed_started) watch.old r) }
+    ensures disturbs { OnOk result (Disturbs (D.peer_of plan.now.engine) agenda.old agenda.new world.old world.new) }
     ensures updates { OnOk result (watch.new ≡ watch.old ++ update ∷ []) }
     ensures reached { IfOk result (λ o. IfSome o (λ r. IsReached (λ c. exit_verdict c) plan.now.exit_condition plan.now.required_finalizations (target_count plan.now.participants plan.now.crashes world.new.exercise.delayed_started) watch.new r)) }
     ensures late { IfErr result (λ s. IsTrue (stops_late s)) }
@@ -194,6 +197,7 @@ pub fn take_reports<D: EngineDefinition>(
     agenda: &mut Agenda,
     updates: Vec<FinalizationUpdate>,
 ) -> Result<Option<Reached>, Stop>
+    ensures disturbs { OnOk result (Disturbs (D.peer_of plan.now.engine) agenda.old agenda.new world.old world.new) }
     ensures updates { OnOk result (watch.new ≡ watch.old ++ updates.items) }
     ensures reached { IfOk result (λ o. IfSome o (λ r. IsReached (λ c. exit_verdict c) plan.now.exit_condition plan.now.required_finalizations (target_count plan.now.participants plan.now.crashes world.new.exercise.delayed_started) watch.new r)) }
     ensures late { IfErr result (λ s. IsTrue (stops_late s)) }

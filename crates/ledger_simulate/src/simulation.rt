@@ -1,13 +1,23 @@
 //! A run, one event at a time.
-ghost use Rattle.std.specs.Prelude.{◌≡◌, ◌<◌, ◌+◌, ◌∷◌, [], Err, IfErr, IfOk, IfSome, IsTrue, None, Ok, OnOk};
+ghost use Rattle.std.specs.Prelude.{◌≡◌, ◌<◌, ◌+◌, ◌++◌, ◌∷◌, [], Bool, Err, IfErr, IfOk, IfSome, IsTrue, None, Ok, OnOk, Some, false, map};
+ghost use Rattle.std.specs.List.{flat_map};
 ghost use Rattle.rand_core.specs.Pcg32Seed.{pcg32_seed};
 ghost use Rattle.rand_pcg.specs.Pcg.{pcg32_of_seed};
-ghost use Rattle.ledger_simulate.specs.Plans.{Runs, target_count};
-ghost use Rattle.ledger_simulate.specs.Queue.{first_key};
+ghost use Rattle.simulate_parts.specs.Engine.{updates_of};
+ghost use Rattle.simulate_parts.specs.Seats.{runs};
+ghost use Rattle.simulate_parts.specs.Team.{others};
+ghost use Rattle.simulate_parts.specs.Tracker.{first_fault, tracker_of};
+ghost use Rattle.simulate_parts.specs.declared.engine.StepOut.{StepOut};
+ghost use Rattle.ledger_simulate.specs.Handling.{Disturbs, Gives, Grows, Handles, Seated, Stirs, Tells, birth_at};
+ghost use Rattle.ledger_simulate.specs.Links.{changed_links, common_link};
+ghost use Rattle.ledger_simulate.specs.Opening.{actions_of, first_poll, first_tick, opening, starts};
+ghost use Rattle.ledger_simulate.specs.Plans.{Runs, named_late, target_count};
+ghost use Rattle.ledger_simulate.specs.Queue.{empty_queue, first_key, queued_all};
 ghost use Rattle.ledger_simulate.specs.Reaching.{IsReached};
 ghost use Rattle.ledger_simulate.specs.Results.{EndedView, ResultView};
-ghost use Rattle.ledger_simulate.specs.Runs.{Advances, Extends, ResultOf, Succeeds};
+ghost use Rattle.ledger_simulate.specs.Runs.{Extends, Proceeds, ResultOf, Succeeds};
 ghost use Rattle.ledger_simulate.specs.Stops.{early_fault, is_late, stops_late};
+ghost use Rattle.ledger_simulate.specs.declared.event.Event.TheVariants.{Act, ExitPoll};
 
 use crate::agenda::Agenda;
 use crate::asks::check_properties;
@@ -20,14 +30,14 @@ use crate::reports::{Reached, ask, reports_of, take_reports};
 use crate::result::{Ended, PlanResult, SimEnd};
 use crate::spelling::write_event;
 use crate::watch::Watch;
-use crate::world::{World, named_late_by, random_of};
-use ledger_codec::OutOfMemory;
+use crate::world::{World, named_late_by};
+use ledger_codec::{List, OutOfMemory};
 use rand_core::SeedableRng;
 use rand_pcg::Pcg32;
 use sha2::{Digest, Sha256};
 use simulate_parts::{
-    Crash, EngineDefinition, FinalizationUpdate, Peer, StateView, StepEvent, StepOut,
-    active_states, is_among, step_engine,
+    Action, Crash, EngineDefinition, FinalizationUpdate, Peer, ProgressTracker, StateView,
+    StepEvent, StepOut, active_states, is_among, is_current, step_engine,
 };
 use std::alloc::Global;
 
@@ -63,11 +73,14 @@ impl<'a, D: EngineDefinition> Simulation<'a, D> {
         ensures plan { IfOk result (λ s. s.plan ≡ plan.entry) }
         ensures updates { IfOk result (λ s. s.watch ≡ []) }
         ensures words { IfOk result (λ s. s.world.words ≡ pcg32_of_seed (pcg32_seed 16 seed)) }
+        ensures links { IfOk result (λ s. (common_link s.world.links ≡ plan.now.link) × (changed_links s.world.links ≡ [])) }
+        ensures queue { IfOk result (λ s. (polls : Bool) × (plan.now.exit_condition ≡ None → polls ≡ false) × (s.queue ≡ queued_all empty_queue 0 (opening plan.now.participants plan.now.crashes polls))) }
+        ensures seated { IfOk result (λ s. Seated (D.peer_of plan.now.engine) s.queue.next s.world.seats.entries) }
     {
         let mut world = World::new(alloc, plan, Pcg32::seed_from_u64(seed))?;
         let mut agenda = Agenda::new(alloc, 0);
-        open(plan, &mut world, &mut agenda)?;
-        world.words = Pcg32::seed_from_u64(seed);
+        let polls = polls(plan);
+        open(plan, &mut world, &mut agenda, polls)?;
         let mut queue = Queue::new(alloc);
         queue.add_all(0, agenda.into_events())?;
         Ok(Simulation {
@@ -96,6 +109,14 @@ impl<'a, D: EngineDefinition> Simulation<'a, D> {
         self.handled
     }
 
+    /// The tracker of the reports so far, each of which it took.
+    pub fn tracker(&self) -> &ProgressTracker
+        ensures value { result.now ≡ tracker_of self.now.watch }
+        ensures sound { first_fault self.now.watch ≡ None }
+    {
+        self.watch.tracker()
+    }
+
     /// Handles the first event. In this order a run is refused where no event is left, where as many events
     /// were handled as the plan allows, and where the first event is due after the timeout; and then by what
     /// the event brings. A refused call gives the run up.
@@ -103,9 +124,10 @@ impl<'a, D: EngineDefinition> Simulation<'a, D> {
         ensures early { IfSome (early_fault (first_key self.entry.queue) self.entry.handled self.entry.plan.now.max_events self.entry.plan.now.timeout) (λ f. result ≡ Err (SimEnd.Fault (record { fault = f; seed = self.entry.seed; handled = self.entry.handled; max_events = self.entry.plan.now.max_events; timeout = self.entry.plan.now.timeout }))) }
         ensures late { (e : EndedView) → early_fault (first_key self.entry.queue) self.entry.handled self.entry.plan.now.max_events self.entry.plan.now.timeout ≡ None → result ≡ Err (SimEnd.Fault e) → (IsTrue (is_late e.fault)) × (e.handled ≡ self.entry.handled + 1) × (e.seed ≡ self.entry.seed) × (e.max_events ≡ self.entry.plan.now.max_events) × (e.timeout ≡ self.entry.plan.now.timeout) }
         ensures ended { (e : EndedView) → result ≡ Err (SimEnd.Fault e) → (e.seed ≡ self.entry.seed) × (e.max_events ≡ self.entry.plan.now.max_events) × (e.timeout ≡ self.entry.plan.now.timeout) }
-        ensures on { (next : _) → result ≡ Ok (Stepped.On next) → Advances self.entry.queue next.queue × Extends self.entry.watch next.watch × (next.handled ≡ self.entry.handled + 1) × (self.entry.handled < self.entry.plan.now.max_events) × (next.seed ≡ self.entry.seed) × (next.plan ≡ self.entry.plan) }
+        ensures on { (next : _) → result ≡ Ok (Stepped.On next) → Proceeds (D.peer_of self.entry.plan.now.engine) (D.journal self.entry.plan.now.engine) (D.reports self.entry.plan.now.engine) self.entry.queue next.queue self.entry.watch next.watch self.entry.world next.world × (next.handled ≡ self.entry.handled + 1) × (self.entry.handled < self.entry.plan.now.max_events) × (next.seed ≡ self.entry.seed) × (next.plan ≡ self.entry.plan) }
         ensures done { (r : ResultView) → result ≡ Ok (Stepped.Done r) → Extends self.entry.watch r.updates × (r.handled ≡ self.entry.handled + 1) × (r.seed ≡ self.entry.seed) × (r.max_events ≡ self.entry.plan.now.max_events) × (r.timeout ≡ self.entry.plan.now.timeout) }
         ensures success { (r : ResultView) → result ≡ Ok (Stepped.Done r) → Succeeds (λ c. exit_verdict c) (λ p. property_complaint p) self.entry.plan.now.participants self.entry.plan.now.crashes self.entry.plan.now.exit_condition self.entry.plan.now.required_finalizations self.entry.plan.now.property r }
+        ensures reports { (r : ResultView) → result ≡ Ok (Stepped.Done r) → Seated (D.peer_of self.entry.plan.now.engine) self.entry.queue.next self.entry.world.seats.entries → Grows (D.reports self.entry.plan.now.engine) self.entry.watch r.updates }
     {
         let plan = self.plan;
         match early(
@@ -120,59 +142,46 @@ impl<'a, D: EngineDefinition> Simulation<'a, D> {
     }
 
     /// Handles the first event, where nothing stops the run before.
-    fn advance(self) -> Result<Stepped<'a, D>, SimEnd>
+    fn advance(mut self) -> Result<Stepped<'a, D>, SimEnd>
         requires early { early_fault (first_key self.queue) self.handled self.plan.now.max_events self.plan.now.timeout ≡ None }
         requires below { self.handled < self.plan.now.max_events }
         ensures late { (e : EndedView) → result ≡ Err (SimEnd.Fault e) → (IsTrue (is_late e.fault)) × (e.handled ≡ self.entry.handled + 1) × (e.seed ≡ self.entry.seed) × (e.max_events ≡ self.entry.plan.now.max_events) × (e.timeout ≡ self.entry.plan.now.timeout) }
-        ensures on { (next : _) → result ≡ Ok (Stepped.On next) → Advances self.entry.queue next.queue × Extends self.entry.watch next.watch × (next.handled ≡ self.entry.handled + 1) × (next.seed ≡ self.entry.seed) × (next.plan ≡ self.entry.plan) }
+        ensures on { (next : _) → result ≡ Ok (Stepped.On next) → Proceeds (D.peer_of self.entry.plan.now.engine) (D.journal self.entry.plan.now.engine) (D.reports self.entry.plan.now.engine) self.entry.queue next.queue self.entry.watch next.watch self.entry.world next.world × (next.handled ≡ self.entry.handled + 1) × (next.seed ≡ self.entry.seed) × (next.plan ≡ self.entry.plan) }
         ensures done { (r : ResultView) → result ≡ Ok (Stepped.Done r) → Extends self.entry.watch r.updates × (r.handled ≡ self.entry.handled + 1) × (r.seed ≡ self.entry.seed) × (r.max_events ≡ self.entry.plan.now.max_events) × (r.timeout ≡ self.entry.plan.now.timeout) }
         ensures success { (r : ResultView) → result ≡ Ok (Stepped.Done r) → Succeeds (λ c. exit_verdict c) (λ p. property_complaint p) self.entry.plan.now.participants self.entry.plan.now.crashes self.entry.plan.now.exit_condition self.entry.plan.now.required_finalizations self.entry.plan.now.property r }
+        ensures reports { (r : ResultView) → result ≡ Ok (Stepped.Done r) → Seated (D.peer_of self.entry.plan.now.engine) self.entry.queue.next self.entry.world.seats.entries → Grows (D.reports self.entry.plan.now.engine) self.entry.watch r.updates }
     {
-        let Simulation {
-            plan,
-            alloc,
-            seed,
-            handled,
-            mut state,
-            mut queue,
-            mut world,
-            mut watch,
-        } = self;
-        let Some(entry) = queue.take() else {
+        let plan = self.plan;
+        let Some(entry) = self.queue.take() else {
             return Err(SimEnd::OutOfMemory);
         };
         let (key, event) = entry;
-        prove!(handled < plan.max_events);
-        let handled = handled + 1;
-        write_event(&mut state, key, &event);
-        let mut agenda = Agenda::new(alloc, queue.next());
-        match handle(plan, &mut world, &mut watch, &mut agenda, key, event) {
-            Ok(None) => match queue.add_all(key.0, agenda.into_events()) {
-                Ok(()) => Ok(Stepped::On(Simulation {
-                    plan,
-                    alloc,
-                    seed,
-                    handled,
-                    state,
-                    queue,
-                    world,
-                    watch,
-                })),
-                Err(OutOfMemory) => Err(SimEnd::OutOfMemory),
-            },
-            Ok(Some(reached)) => Simulation {
-                plan,
-                alloc,
-                seed,
-                handled,
-                state,
-                queue,
-                world,
-                watch,
-            }
-            .finish(reached),
-            Err(Stop::Fault(fault)) => Err(ended(plan, seed, handled, fault)),
+        prove!(self.handled < plan.max_events);
+        self.handled += 1;
+        write_event(&mut self.state, key, &event);
+        let mut agenda = Agenda::new(self.alloc, self.queue.next());
+        let mut world = self.world;
+        let mut watch = self.watch;
+        let outcome = handle(plan, &mut world, &mut watch, &mut agenda, key, event);
+        self.world = world;
+        self.watch = watch;
+        match outcome {
+            Ok(None) => self.go_on(key.0, agenda),
+            Ok(Some(reached)) => self.finish(reached),
+            Err(Stop::Fault(fault)) => Err(ended(plan, self.seed, self.handled, fault)),
             Err(Stop::OutOfMemory) => Err(SimEnd::OutOfMemory),
+        }
+    }
+
+    /// Queues the events that were made, each so long after `now`.
+    fn go_on(mut self, now: u64, agenda: Agenda) -> Result<Stepped<'a, D>, SimEnd>
+        ensures fault { (e : EndedView) → result ≡ Err (SimEnd.Fault e) → ⊥ }
+        ensures on { (next : _) → result ≡ Ok (Stepped.On next) → (next.queue ≡ queued_all self.entry.queue now agenda.events) × (next.watch ≡ self.entry.watch) × (next.world ≡ self.entry.world) × (next.handled ≡ self.entry.handled) × (next.seed ≡ self.entry.seed) × (next.plan ≡ self.entry.plan) }
+        ensures done { (r : ResultView) → result ≡ Ok (Stepped.Done r) → ⊥ }
+    {
+        match self.queue.add_all(now, agenda.into_events()) {
+            Ok(()) => Ok(Stepped::On(self)),
+            Err(OutOfMemory) => Err(SimEnd::OutOfMemory),
         }
     }
 
@@ -281,46 +290,133 @@ fn early(
 }
 
 /// Makes the first events of a run: the starts of the participants that aren't delayed, the actions of the
-/// schedules, the random crash ticker and the exit poll.
+/// schedules, the random crash and the exit poll.
 fn open<D: EngineDefinition>(
     plan: &Plan<D>,
     world: &mut World<D>,
     agenda: &mut Agenda,
-) -> Result<(), OutOfMemory> {
-    let late = named_late_by(plan.crashes.as_slice());
+    polls: bool,
+) -> Result<(), OutOfMemory>
+    ensures made { OnOk result (agenda.new ≡ record agenda.old { events = agenda.old.events ++ opening plan.now.participants plan.now.crashes polls }) }
+    ensures disturbs { OnOk result (Disturbs (D.peer_of plan.now.engine) agenda.old agenda.new world.old world.new) }
+{
+    match start_prompt(plan, world, agenda) {
+        Ok(()) => {}
+        Err(fault) => return Err(fault),
+    }
+    match set_failures(agenda, plan.crashes.as_slice(), polls) {
+        Ok(()) => Ok(()),
+        Err(fault) => Err(fault),
+    }
+}
+
+/// Starts the participants that aren't delayed, in order.
+fn start_prompt<D: EngineDefinition>(
+    plan: &Plan<D>,
+    world: &mut World<D>,
+    agenda: &mut Agenda,
+) -> Result<(), OutOfMemory>
+    ensures made { OnOk result (agenda.new ≡ record agenda.old { events = agenda.old.events ++ starts (others (named_late plan.now.crashes) plan.now.participants) }) }
+    ensures disturbs { OnOk result (Disturbs (D.peer_of plan.now.engine) agenda.old agenda.new world.old world.new) }
+{
     for pk in plan.participants.as_slice() {
-        if !is_among(late, pk) {
-            world.launch(plan, agenda, *pk)?;
+        match start_if_prompt(plan, world, agenda, pk) {
+            Ok(()) => {}
+            Err(fault) => return Err(fault),
         }
-    }
-    set_actions(agenda, plan.crashes.as_slice())?;
-    if let Some(random) = random_of(plan.crashes.as_slice()) {
-        agenda.after(random.frequency, Event::CrashTick)?;
-    }
-    if polls(plan) {
-        agenda.after(EXIT_POLL, Event::ExitPoll)?;
     }
     Ok(())
 }
 
+/// Starts a participant, where it isn't delayed.
+fn start_if_prompt<D: EngineDefinition>(
+    plan: &Plan<D>,
+    world: &mut World<D>,
+    agenda: &mut Agenda,
+    pk: &Peer,
+) -> Result<(), OutOfMemory>
+    ensures made { OnOk result (agenda.new ≡ record agenda.old { events = agenda.old.events ++ starts (others (named_late plan.now.crashes) (pk.now ∷ [])) }) }
+    ensures disturbs { OnOk result (Disturbs (D.peer_of plan.now.engine) agenda.old agenda.new world.old world.new) }
+{
+    if is_among(named_late_by(plan.crashes.as_slice()), pk) {
+        return Ok(());
+    }
+    match world.launch(plan, agenda, *pk) {
+        Ok(()) => Ok(()),
+        Err(fault) => Err(fault),
+    }
+}
+
 /// Whether the plan's exit condition is polled.
-fn polls<D: EngineDefinition>(plan: &Plan<D>) -> bool {
+fn polls<D: EngineDefinition>(plan: &Plan<D>) -> bool
+    ensures { plan.now.exit_condition ≡ None → result ≡ false }
+{
     match &plan.exit_condition {
         Some(condition) => condition.requires_polling(),
         None => false,
     }
 }
 
-/// Sets the actions of each schedule, in the order of the configured failures.
-fn set_actions(agenda: &mut Agenda, crashes: &[Crash]) -> Result<(), OutOfMemory> {
-    for crash in crashes {
-        if let Crash::Schedule(schedule) = crash {
-            for action in schedule.events() {
-                agenda.after(action.0, Event::Act(action.1))?;
-            }
-        }
+/// Sets the actions of the schedules, the random crash and the exit poll.
+fn set_failures(agenda: &mut Agenda, crashes: &[Crash], polls: bool) -> Result<(), OutOfMemory>
+    ensures { OnOk result (agenda.new ≡ record agenda.old { events = agenda.old.events ++ flat_map actions_of crashes.now ++ flat_map first_tick crashes.now ++ first_poll polls }) }
+{
+    set_actions(agenda, crashes)?;
+    set_ticks(agenda, crashes)?;
+    if polls {
+        agenda.after(EXIT_POLL, Event::ExitPoll)?;
     }
     Ok(())
+}
+
+/// Sets the actions of each schedule, in the order of the configured failures.
+fn set_actions(agenda: &mut Agenda, crashes: &[Crash]) -> Result<(), OutOfMemory>
+    ensures { OnOk result (agenda.new ≡ record agenda.old { events = agenda.old.events ++ flat_map actions_of crashes.now }) }
+{
+    for crash in crashes {
+        set_schedule(agenda, crash)?;
+    }
+    Ok(())
+}
+
+/// Sets the actions of a failure's schedule.
+fn set_schedule(agenda: &mut Agenda, crash: &Crash) -> Result<(), OutOfMemory>
+    ensures { OnOk result (agenda.new ≡ record agenda.old { events = agenda.old.events ++ actions_of crash.now }) }
+{
+    match crash {
+        Crash::Schedule(schedule) => set_each(agenda, schedule.events()),
+        _ => Ok(()),
+    }
+}
+
+/// Sets these actions, at their times.
+fn set_each(agenda: &mut Agenda, actions: &[(u64, Action)]) -> Result<(), OutOfMemory>
+    ensures { OnOk result (agenda.new ≡ record agenda.old { events = agenda.old.events ++ map (λ e. (e.0, Act e.1)) actions.now }) }
+{
+    for action in actions {
+        agenda.after(action.0, Event::Act(action.1))?;
+    }
+    Ok(())
+}
+
+/// Sets the first crash of each random failure.
+fn set_ticks(agenda: &mut Agenda, crashes: &[Crash]) -> Result<(), OutOfMemory>
+    ensures { OnOk result (agenda.new ≡ record agenda.old { events = agenda.old.events ++ flat_map first_tick crashes.now }) }
+{
+    for crash in crashes {
+        set_tick(agenda, crash)?;
+    }
+    Ok(())
+}
+
+/// Sets the first crash of a failure, where it is random.
+fn set_tick(agenda: &mut Agenda, crash: &Crash) -> Result<(), OutOfMemory>
+    ensures { OnOk result (agenda.new ≡ record agenda.old { events = agenda.old.events ++ first_tick crash.now }) }
+{
+    match crash {
+        Crash::Random { frequency, .. } => agenda.after(*frequency, Event::CrashTick),
+        _ => Ok(()),
+    }
 }
 
 /// Handles one event.
@@ -332,67 +428,89 @@ fn handle<D: EngineDefinition>(
     key: (u64, u64),
     event: Event,
 ) -> Result<Option<Reached>, Stop>
+    ensures handled { OnOk result (Handles (D.peer_of plan.now.engine) (D.journal plan.now.engine) (D.reports plan.now.engine) key event agenda.old agenda.new watch.old watch.new world.old world.new) }
     ensures updates { OnOk result (Extends watch.old watch.new) }
     ensures reached { IfOk result (λ o. IfSome o (λ r. IsReached (λ c. exit_verdict c) plan.now.exit_condition plan.now.required_finalizations (target_count plan.now.participants plan.now.crashes world.new.exercise.delayed_started) watch.new r)) }
     ensures late { IfErr result (λ s. IsTrue (stops_late s)) }
 {
     match event {
-        Event::Started { pk } => step_at(
-            plan,
-            world,
-            watch,
-            agenda,
-            pk,
-            Some(key.1),
-            StepEvent::Started,
-        ),
-        Event::Timer { pk, birth } => step_at(
-            plan,
-            world,
-            watch,
-            agenda,
-            pk,
-            Some(birth),
-            StepEvent::Timer { at: key.0 },
-        ),
+        Event::Started { pk } => step_at(plan, world, watch, agenda, Told::start(pk, key.1)),
+        Event::Timer { pk, birth } => {
+            step_at(plan, world, watch, agenda, Told::timer(pk, birth, key.0))
+        }
         Event::Received {
             from,
             to,
             channel,
             bytes,
-        } => step_at(
-            plan,
-            world,
-            watch,
-            agenda,
-            to,
-            None,
-            StepEvent::Received {
+        } => {
+            let told = Told::message(from, to, channel, bytes);
+            step_at(plan, world, watch, agenda, told)
+        }
+        Event::ExitPoll => poll(plan, world, watch, agenda),
+        Event::Act(action) => unless_short(world.act(plan, agenda, action)),
+        Event::CrashTick => unless_short(world.crash_at_random(plan, agenda)),
+        Event::Recover { pk } => unless_short(world.relaunch(plan, agenda, pk)),
+    }
+}
+
+/// What an engine of a peer is told, if it is the one that was started under the number `birth`, or
+/// whichever runs.
+#[derive(Drop)]
+struct Told {
+    pk: Peer,
+    birth: Option<u64>,
+    event: StepEvent,
+}
+
+impl Told {
+    /// An engine's start, to the one that was started under this number.
+    fn start(pk: Peer, number: u64) -> Self
+        ensures { result ≡ record { pk = pk; birth = Some number; event = StepEvent.Started } }
+    {
+        Told {
+            pk,
+            birth: Some(number),
+            event: StepEvent::Started,
+        }
+    }
+
+    /// The end of a timer of the engine of this birth.
+    fn timer(pk: Peer, birth: u64, at: u64) -> Self
+        ensures { result ≡ record { pk = pk; birth = Some birth; event = StepEvent.Timer at } }
+    {
+        Told {
+            pk,
+            birth: Some(birth),
+            event: StepEvent::Timer { at },
+        }
+    }
+
+    /// A message, to whichever engine of its receiver runs.
+    fn message(from: Peer, to: Peer, channel: u64, bytes: List<u8>) -> Self
+        ensures { result ≡ record { pk = to; birth = None; event = StepEvent.Received from channel bytes } }
+    {
+        Told {
+            pk: to,
+            birth: None,
+            event: StepEvent::Received {
                 from,
                 channel,
                 bytes,
             },
-        ),
-        Event::ExitPoll => poll(plan, world, watch, agenda),
-        other => match surround(plan, world, agenda, other) {
-            Ok(()) => Ok(None),
-            Err(OutOfMemory) => Err(Stop::OutOfMemory),
-        },
+        }
     }
 }
 
-/// Handles an event that is no engine's and no poll.
-fn surround<D: EngineDefinition>(
-    plan: &Plan<D>,
-    world: &mut World<D>,
-    agenda: &mut Agenda,
-    event: Event,
-) -> Result<(), OutOfMemory> {
-    match event {
-        Event::Act(action) => world.act(plan, agenda, action),
-        Event::CrashTick => world.crash_at_random(plan, agenda),
-        Event::Recover { pk } => world.relaunch(plan, agenda, pk),
-        _ => Ok(()),
+/// The run goes on, unless memory was wanting.
+fn unless_short(done: Result<(), OutOfMemory>) -> Result<Option<Reached>, Stop>
+    ensures on { OnOk result (done ≡ Ok tt) }
+    ensures none { IfOk result (λ o. o ≡ None) }
+    ensures late { IfErr result (λ s. IsTrue (stops_late s)) }
+{
+    match done {
+        Ok(()) => Ok(None),
+        Err(OutOfMemory) => Err(Stop::OutOfMemory),
     }
 }
 
@@ -400,7 +518,9 @@ fn surround<D: EngineDefinition>(
 fn polled_states<D: EngineDefinition>(
     world: &World<D>,
     agenda: &mut Agenda,
-) -> Result<Vec<StateView>, OutOfMemory> {
+) -> Result<Vec<StateView>, OutOfMemory>
+    ensures { OnOk result (agenda.new ≡ record agenda.old { events = agenda.old.events ++ (25, ExitPoll) ∷ [] }) }
+{
     agenda.after(EXIT_POLL, Event::ExitPoll)?;
     active_states(world.alloc, &world.seats)
 }
@@ -412,6 +532,7 @@ fn poll<D: EngineDefinition>(
     watch: &Watch,
     agenda: &mut Agenda,
 ) -> Result<Option<Reached>, Stop>
+    ensures stirs { OnOk result (Stirs (D.peer_of plan.now.engine) agenda.old agenda.new world.now world.now) }
     ensures reached { IfOk result (λ o. IfSome o (λ r. IsReached (λ c. exit_verdict c) plan.now.exit_condition plan.now.required_finalizations (target_count plan.now.participants plan.now.crashes world.now.exercise.delayed_started) watch.now r)) }
     ensures late { IfErr result (λ s. IsTrue (stops_late s)) }
 {
@@ -423,19 +544,28 @@ fn poll<D: EngineDefinition>(
 
 /// The birth of a peer's engine that an event is for: the one that was started under this number, or
 /// whichever runs.
-fn addressed<D: EngineDefinition>(world: &World<D>, pk: &Peer, birth: Option<u64>) -> Option<u64> {
+fn addressed<D: EngineDefinition>(world: &World<D>, pk: &Peer, birth: Option<u64>) -> Option<u64>
+    ensures { result ≡ birth_at world.now.seats.entries pk.now birth }
+{
+    match birth {
+        Some(birth) => {
+            if is_current(&world.seats, pk, birth) {
+                Some(birth)
+            } else {
+                None
+            }
+        }
+        None => birth_of(world, pk),
+    }
+}
+
+/// The birth of a peer's engine, where it runs.
+fn birth_of<D: EngineDefinition>(world: &World<D>, pk: &Peer) -> Option<u64>
+    ensures { result ≡ birth_at world.now.seats.entries pk.now None }
+{
     match world.seats.get(pk) {
         Some(seat) => match &seat.running {
-            Some(running) => match birth {
-                Some(birth) => {
-                    if birth == running.birth {
-                        Some(birth)
-                    } else {
-                        None
-                    }
-                }
-                None => Some(running.birth),
-            },
+            Some(running) => Some(running.birth),
             None => None,
         },
         None => None,
@@ -448,14 +578,14 @@ fn step_at<D: EngineDefinition>(
     world: &mut World<D>,
     watch: &mut Watch,
     agenda: &mut Agenda,
-    pk: Peer,
-    birth: Option<u64>,
-    event: StepEvent,
+    told: Told,
 ) -> Result<Option<Reached>, Stop>
+    ensures told { OnOk result (Tells (D.peer_of plan.now.engine) (D.journal plan.now.engine) (D.reports plan.now.engine) told.pk told.birth told.event agenda.old agenda.new watch.old watch.new world.old world.new) }
     ensures updates { OnOk result (Extends watch.old watch.new) }
     ensures reached { IfOk result (λ o. IfSome o (λ r. IsReached (λ c. exit_verdict c) plan.now.exit_condition plan.now.required_finalizations (target_count plan.now.participants plan.now.crashes world.new.exercise.delayed_started) watch.new r)) }
     ensures late { IfErr result (λ s. IsTrue (stops_late s)) }
 {
+    let Told { pk, birth, event } = told;
     let Some(birth) = addressed(world, &pk, birth) else {
         return Ok(None);
     };
@@ -473,16 +603,23 @@ fn step_and_send<D: EngineDefinition>(
     pk: Peer,
     birth: u64,
     event: StepEvent,
-) -> Result<Vec<FinalizationUpdate>, OutOfMemory> {
+) -> Result<Vec<FinalizationUpdate>, OutOfMemory>
+    requires { IsTrue (runs world.old.seats.entries pk) }
+    ensures { IfOk result (λ updates. (out : StepOut) × Gives (D.peer_of plan.now.engine) (D.journal plan.now.engine) (D.reports plan.now.engine) pk birth event out agenda.old agenda.new world.old world.new × (updates.items ≡ updates_of pk out.finalized)) }
+{
     let mut out = StepOut::new(world.alloc);
-    step_engine(
+    match step_engine(
         world.alloc,
         &plan.engine,
         &mut world.seats,
         &pk,
         &event,
         &mut out,
-    )?;
+    ) {
+        Ok(true) => {}
+        Ok(false) => unreachable!(),
+        Err(fault) => return Err(fault),
+    }
     let StepOut {
         timers,
         messages,

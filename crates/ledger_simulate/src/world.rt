@@ -1,8 +1,13 @@
 //! The engines of a run and what surrounds them.
-ghost use Rattle.std.specs.Prelude.{◌≡◌, ◌<◌, IfErr, IsTrue, filter, length, vec_len};
-ghost use Rattle.simulate_parts.specs.Team.{names};
+ghost use Rattle.std.specs.Prelude.{◌≡◌, ◌<◌, ◌++◌, ◌∷◌, [], IfErr, IfOk, IsTrue, OnOk, filter, length, vec_len};
+ghost use Rattle.rand_pcg.specs.Lcg.{Lcg};
+ghost use Rattle.simulate_parts.specs.Seats.{stopped};
+ghost use Rattle.simulate_parts.specs.Team.{names, place_of};
+ghost use Rattle.ledger_simulate.specs.Handling.{Disturbs, Stirs};
+ghost use Rattle.ledger_simulate.specs.Links.{changed_links, common_link};
 ghost use Rattle.ledger_simulate.specs.Plans.{named_late, target_count};
 ghost use Rattle.ledger_simulate.specs.Stops.{stops_late};
+ghost use Rattle.ledger_simulate.specs.declared.event.Event.TheVariants.{Started};
 
 use crate::agenda::Agenda;
 use crate::event::Event;
@@ -16,7 +21,7 @@ use rand_core::utils::NextWord;
 use rand_pcg::Pcg32;
 use simulate_parts::{
     Action, Crash, EngineDefinition, FaultConfig, Peer, ProcessedHeight, ProgressTracker, Round,
-    Seats, Start, active_keys, is_among, start_engine, stop_engine,
+    Seats, SimLink, Start, active_keys, is_among, start_engine, stop_engine,
 };
 use std::alloc::Global;
 use std::collections::BTreeMap;
@@ -36,7 +41,11 @@ pub struct World<D: EngineDefinition> {
 
 impl<D: EngineDefinition> World<D> {
     /// Nobody runs yet.
-    pub fn new(alloc: Global, plan: &Plan<D>, words: Pcg32) -> Result<Self, OutOfMemory> {
+    pub fn new(alloc: Global, plan: &Plan<D>, words: Pcg32) -> Result<Self, OutOfMemory>
+        ensures seats { IfOk result (λ w. w.seats.entries ≡ []) }
+        ensures words { IfOk result (λ w. w.words ≡ words) }
+        ensures links { IfOk result (λ w. (common_link w.links ≡ plan.now.link) × (changed_links w.links ≡ [])) }
+    {
         Ok(World {
             alloc,
             seats: BTreeMap::new(alloc),
@@ -61,7 +70,10 @@ impl<D: EngineDefinition> World<D> {
         plan: &Plan<D>,
         agenda: &mut Agenda,
         pk: Peer,
-    ) -> Result<(), OutOfMemory> {
+    ) -> Result<(), OutOfMemory>
+        ensures made { OnOk result (agenda.new ≡ record agenda.old { events = agenda.old.events ++ (0, Started pk) ∷ [] }) }
+        ensures disturbs { OnOk result (Disturbs (D.peer_of plan.now.engine) agenda.old agenda.new self.old self.new) }
+    {
         let participants = plan.participants.as_slice();
         let start = Start {
             pk,
@@ -70,14 +82,20 @@ impl<D: EngineDefinition> World<D> {
             fault: self.fault,
             birth: agenda.number()?,
         };
-        start_engine(
+        match start_engine(
             self.alloc,
             &plan.engine,
             participants,
             &mut self.seats,
             start,
-        )?;
-        agenda.after(0, Event::Started { pk })
+        ) {
+            Ok(()) => {}
+            Err(fault) => return Err(fault),
+        }
+        match agenda.after(0, Event::Started { pk }) {
+            Ok(()) => Ok(()),
+            Err(fault) => Err(fault),
+        }
     }
 
     /// Starts a participant's engine now; nothing where the peer is none.
@@ -86,15 +104,25 @@ impl<D: EngineDefinition> World<D> {
         plan: &Plan<D>,
         agenda: &mut Agenda,
         pk: Peer,
-    ) -> Result<(), OutOfMemory> {
-        if is_among(plan.participants.as_slice(), &pk) {
-            self.launch(plan, agenda, pk)?;
+    ) -> Result<(), OutOfMemory>
+        ensures { OnOk result (Disturbs (D.peer_of plan.now.engine) agenda.old agenda.new self.old self.new) }
+    {
+        if !is_among(plan.participants.as_slice(), &pk) {
+            return Ok(());
         }
-        Ok(())
+        match self.launch(plan, agenda, pk) {
+            Ok(()) => Ok(()),
+            Err(fault) => Err(fault),
+        }
     }
 
     /// Stops a peer, counts the crash where it ran, and says whether it did.
-    fn crash(&mut self, pk: &Peer) -> bool {
+    fn crash(&mut self, pk: &Peer) -> bool
+        ensures seats { self.new.seats.entries ≡ stopped self.old.seats.entries pk.now }
+        ensures words { self.new.words ≡ self.old.words }
+        ensures links { self.new.links ≡ self.old.links }
+        ensures rules { self.new.rules ≡ self.old.rules }
+    {
         let ran = stop_engine(&mut self.seats, pk);
         if ran {
             self.exercise.count_crash();
@@ -103,16 +131,16 @@ impl<D: EngineDefinition> World<D> {
     }
 
     /// Stops a peer for a downtime.
-    fn crash_for(
-        &mut self,
-        agenda: &mut Agenda,
-        pk: Peer,
-        downtime: u64,
-    ) -> Result<(), OutOfMemory> {
-        if self.crash(&pk) {
-            agenda.after(downtime, Event::Recover { pk })?;
+    fn crash_for(&mut self, agenda: &mut Agenda, pk: Peer, downtime: u64) -> Result<(), OutOfMemory>
+        ensures { OnOk result ((peer_of : _) → Disturbs peer_of agenda.old agenda.new self.old self.new) }
+    {
+        if !self.crash(&pk) {
+            return Ok(());
         }
-        Ok(())
+        match agenda.after(downtime, Event::Recover { pk }) {
+            Ok(()) => Ok(()),
+            Err(fault) => Err(fault),
+        }
     }
 
     /// Does what a schedule says, and counts it.
@@ -121,7 +149,9 @@ impl<D: EngineDefinition> World<D> {
         plan: &Plan<D>,
         agenda: &mut Agenda,
         action: Action,
-    ) -> Result<(), OutOfMemory> {
+    ) -> Result<(), OutOfMemory>
+        ensures { OnOk result (Stirs (D.peer_of plan.now.engine) agenda.old agenda.new self.old self.new) }
+    {
         self.exercise.count_action();
         match action {
             Action::SetStorageFault(fault) => {
@@ -132,12 +162,20 @@ impl<D: EngineDefinition> World<D> {
                 self.links = Links::new(self.alloc, link);
                 Ok(())
             }
-            Action::UpdateLink { from, to, link } => self.update_link(plan, from, to, link),
+            Action::UpdateLink { from, to, link } => {
+                match self.update_link(plan, from, to, link) {
+                    Ok(()) => Ok(()),
+                    Err(fault) => Err(fault),
+                }
+            }
             Action::Crash(pk) => {
                 self.crash(&pk);
                 Ok(())
             }
-            Action::Restart(pk) => self.relaunch(plan, agenda, pk),
+            Action::Restart(pk) => match self.relaunch(plan, agenda, pk) {
+                Ok(()) => Ok(()),
+                Err(fault) => Err(fault),
+            },
         }
     }
 
@@ -147,8 +185,11 @@ impl<D: EngineDefinition> World<D> {
         plan: &Plan<D>,
         from: Peer,
         to: Peer,
-        link: simulate_parts::SimLink,
-    ) -> Result<(), OutOfMemory> {
+        link: SimLink,
+    ) -> Result<(), OutOfMemory>
+        ensures seats { self.new.seats ≡ self.old.seats }
+        ensures rules { self.new.rules ≡ self.old.rules }
+    {
         let participants = plan.participants.as_slice();
         if from == to || !is_among(participants, &from) || !is_among(participants, &to) {
             return Ok(());
@@ -162,33 +203,67 @@ impl<D: EngineDefinition> World<D> {
         &mut self,
         plan: &Plan<D>,
         agenda: &mut Agenda,
-    ) -> Result<(), OutOfMemory> {
+    ) -> Result<(), OutOfMemory>
+        ensures { OnOk result (Stirs (D.peer_of plan.now.engine) agenda.old agenda.new self.old self.new) }
+    {
         let Some(random) = random_of(plan.crashes.as_slice()) else {
             return Ok(());
         };
-        let mut left = active_keys(self.alloc, &self.seats)?;
-        for _ in 0..random.count {
-            if left.len() == 0 {
-                break;
-            }
-            let pk = pick(&mut self.words, &mut left);
-            self.crash_for(agenda, pk, random.downtime)?;
+        let picked = victims(self.alloc, &mut self.words, &self.seats, random.count)?;
+        match self.crash_all(agenda, picked, random.downtime) {
+            Ok(()) => {}
+            Err(fault) => return Err(fault),
         }
-        agenda.after(random.frequency, Event::CrashTick)
+        match agenda.after(random.frequency, Event::CrashTick) {
+            Ok(()) => Ok(()),
+            Err(fault) => Err(fault),
+        }
+    }
+
+    /// Stops these peers for a downtime.
+    fn crash_all(
+        &mut self,
+        agenda: &mut Agenda,
+        peers: Vec<Peer>,
+        downtime: u64,
+    ) -> Result<(), OutOfMemory>
+        ensures { OnOk result ((peer_of : _) → Stirs peer_of agenda.old agenda.new self.old self.new) }
+    {
+        for pk in peers {
+            match self.crash_for(agenda, pk, downtime) {
+                Ok(()) => {}
+                Err(fault) => return Err(fault),
+            }
+        }
+        Ok(())
     }
 
     /// Crashes the participants whose heights have entered the windows in which they are to crash.
     pub fn enter_windows(&mut self, plan: &Plan<D>, agenda: &mut Agenda) -> Result<(), Stop>
-        ensures { IfErr result (λ s. IsTrue (stops_late s)) }
+        ensures disturbs { OnOk result (Disturbs (D.peer_of plan.now.engine) agenda.old agenda.new self.old self.new) }
+        ensures late { IfErr result (λ s. IsTrue (stops_late s)) }
     {
         for (index, crash) in plan.crashes.as_slice().iter().enumerate() {
-            if let Crash::ProcessedHeight {
+            match self.look_at(agenda, index, crash) {
+                Ok(()) => {}
+                Err(stop) => return Err(stop),
+            }
+        }
+        Ok(())
+    }
+
+    /// Looks at the window of the configured failure at this place, if it is one.
+    fn look_at(&mut self, agenda: &mut Agenda, index: usize, crash: &Crash) -> Result<(), Stop>
+        ensures disturbs { OnOk result ((peer_of : _) → Disturbs peer_of agenda.old agenda.new self.old self.new) }
+        ensures late { IfErr result (λ s. IsTrue (stops_late s)) }
+    {
+        match crash {
+            Crash::ProcessedHeight {
                 participant,
                 first,
                 last,
                 downtime,
-            } = crash
-            {
+            } => {
                 let window = Window {
                     participant: *participant,
                     first: *first,
@@ -196,12 +271,12 @@ impl<D: EngineDefinition> World<D> {
                     downtime: *downtime,
                 };
                 match self.enter_window(agenda, index, window) {
-                    Ok(()) => {}
-                    Err(stop) => return Err(stop),
+                    Ok(()) => Ok(()),
+                    Err(stop) => Err(stop),
                 }
             }
+            _ => Ok(()),
         }
-        Ok(())
     }
 
     /// Crashes a participant whose height is in the window of the configured failure at this place, once.
@@ -211,7 +286,8 @@ impl<D: EngineDefinition> World<D> {
         index: usize,
         window: Window,
     ) -> Result<(), Stop>
-        ensures { IfErr result (λ s. IsTrue (stops_late s)) }
+        ensures disturbs { OnOk result ((peer_of : _) → Disturbs peer_of agenda.old agenda.new self.old self.new) }
+        ensures late { IfErr result (λ s. IsTrue (stops_late s)) }
     {
         if self.exercise.has_entered(index) {
             return Ok(());
@@ -251,11 +327,16 @@ impl<D: EngineDefinition> World<D> {
         plan: &Plan<D>,
         agenda: &mut Agenda,
         tracker: &ProgressTracker,
-    ) -> Result<(), OutOfMemory> {
-        if self.exercise.delayed_started || !is_due(plan.crashes.as_slice(), tracker.max_round()) {
+    ) -> Result<(), OutOfMemory>
+        ensures { OnOk result (Disturbs (D.peer_of plan.now.engine) agenda.old agenda.new self.old self.new) }
+    {
+        if self.exercise.delayed_started {
             return Ok(());
         }
-        let mut delayed = late_ones(
+        if !is_due(plan.crashes.as_slice(), tracker.max_round()) {
+            return Ok(());
+        }
+        let delayed = late_ones(
             self.alloc,
             plan.participants.as_slice(),
             named_late_by(plan.crashes.as_slice()),
@@ -263,11 +344,30 @@ impl<D: EngineDefinition> World<D> {
         if delayed.len() == 0 {
             return Ok(());
         }
-        delayed.sort()?;
-        for pk in delayed {
-            self.launch(plan, agenda, pk)?;
+        match self.launch_all(plan, agenda, delayed) {
+            Ok(()) => {
+                self.exercise.delayed_started = true;
+                Ok(())
+            }
+            Err(fault) => Err(fault),
         }
-        self.exercise.delayed_started = true;
+    }
+
+    /// Starts these participants' engines now, in order.
+    fn launch_all(
+        &mut self,
+        plan: &Plan<D>,
+        agenda: &mut Agenda,
+        participants: Vec<Peer>,
+    ) -> Result<(), OutOfMemory>
+        ensures { OnOk result (Disturbs (D.peer_of plan.now.engine) agenda.old agenda.new self.old self.new) }
+    {
+        for pk in participants {
+            match self.launch(plan, agenda, pk) {
+                Ok(()) => {}
+                Err(fault) => return Err(fault),
+            }
+        }
         Ok(())
     }
 }
@@ -306,6 +406,24 @@ pub fn random_of(crashes: &[Crash]) -> Option<Random> {
         }
     }
     None
+}
+
+/// So many running peers, or all where fewer run, each taken by a word modulo the number of those left.
+fn victims<D: EngineDefinition>(
+    alloc: Global,
+    words: &mut Pcg32,
+    seats: &Seats<D>,
+    count: usize,
+) -> Result<Vec<Peer>, OutOfMemory> {
+    let mut left = active_keys(alloc, seats)?;
+    let mut picked = Vec::new(alloc);
+    for _ in 0..count {
+        if left.len() == 0 {
+            break;
+        }
+        picked.push(pick(words, &mut left))?;
+    }
+    Ok(picked)
 }
 
 /// Takes one of these peers out, by a word modulo their number.
@@ -351,7 +469,7 @@ fn count_late(participants: &[Peer], named: &[Peer]) -> usize
         .count()
 }
 
-/// Those participants that are named.
+/// Those participants that are named, in ascending order.
 fn late_ones(
     alloc: Global,
     participants: &[Peer],
@@ -363,6 +481,7 @@ fn late_ones(
             late.push(*peer)?;
         }
     }
+    late.sort()?;
     Ok(late)
 }
 

@@ -5,14 +5,14 @@ use Rattle.ledger_simulate.proofs.plan.Plan.run_with_seed.Goals as goal
 pub steps-smaller : goal.steps-smaller
 steps-smaller g c =
     let p = c.in-Ok-On.ensures.on c.in-Ok-On.next (ap Ok c.in-Ok-On.field-0-is) in
-    fewer_left c.in-Ok-On.next.plan.now.max_events c.steps.simulation.plan.now.max_events c.in-Ok-On.next.handled c.steps.simulation.handled (ap (λ b. b.now.max_events) p.5) p.2 p.3
+    fewer_left c.in-Ok-On.next.plan.now.max_events c.steps.simulation.plan.now.max_events c.in-Ok-On.next.handled c.steps.simulation.handled (ap (λ b. b.now.max_events) p.4) p.1 p.2
 
 pub steps-preserved : goal.steps-preserved
 steps-preserved g c =
     let p = c.in-Ok-On.ensures.on c.in-Ok-On.next (ap Ok c.in-Ok-On.field-0-is) in
     record {
-      plan = ap (λ b. b.now) p.5 ∙ c.steps.invariant.plan;
-      seed = p.4 ∙ c.steps.invariant.seed;
+      plan = ap (λ b. b.now) p.4 ∙ c.steps.invariant.plan;
+      seed = p.3 ∙ c.steps.invariant.seed;
     }
 
 pub returns-in-Ok-Done-clause-result : goal.returns-in-Ok-Done-clause-result

@@ -7,4 +7,4 @@ pub returns-clause-ended : goal.returns-clause-ended
 returns-clause-ended g c = λ e h. let p = c.advance.ensures.late e h in (p.2, p.3, p.4)
 
 pub returns-clause-on : goal.returns-clause-on
-returns-clause-on g c = λ next h. let p = c.advance.ensures.on next h in (p.0, p.1, p.2, c.early.ensures.below c.in-None.is, p.3, p.4)
+returns-clause-on g c = λ next h. let p = c.advance.ensures.on next h in (p.0, p.1, c.early.ensures.below c.in-None.is, p.2, p.3)

@@ -1,0 +1,6 @@
+use Rattle.simulate_parts.specs.declared.peer.Peer.{Peer}
+use Rattle.ledger_simulate.specs.Handling.{Stirs}
+use Rattle.ledger_simulate.proofs.world.World.crash_all.Given as goal
+
+abbrev pub invariant-loop-pk : goal.invariant-loop-pk
+invariant-loop-pk g l = (peer_of : g.row.D-Engine.Denot → Peer) → Stirs peer_of l.initial.agenda l.agenda l.initial.self l.self

@@ -1,0 +1,7 @@
+use Rattle.ledger_simulate.proofs.Stirring.{disturbs_then}
+use Rattle.ledger_simulate.proofs.world.World.enter_windows.Goals as goal
+
+pub loop-index-preserved : goal.loop-index-preserved
+loop-index-preserved g c =
+    disturbs_then (g.D.EngineDefinition.peer_of c.args.plan.now.engine) c.args.agenda.now c.loop-index.agenda c.look_at.new.agenda c.args.self.now c.loop-index.self c.look_at.new.self
+    c.loop-index.invariant (c.in-Ok.ensures.disturbs (g.D.EngineDefinition.peer_of c.args.plan.now.engine))

@@ -1,0 +1,120 @@
+-- Handling an event: what an engine is told and gives, and what the failures do to the others.
+use Rattle.std.specs.Prelude.{◌≡◌, ◌<◌, ◌+◌, ℕ, Bool, true, false, IsTrue, List, ◌++◌, Option, Some, None, MatchOption, All, length, option_map, if◌then◌else◌}
+use Rattle.rand_pcg.specs.Lcg.{Lcg}
+use Rattle.simulate_parts.specs.Engine.{Passes, updates_of}
+use Rattle.simulate_parts.specs.Seats.{Steps, running_at, runs, runs_since}
+use Rattle.simulate_parts.specs.declared.engine.StepEvent.{StepEvent}
+use Rattle.simulate_parts.specs.declared.engine.StepEvent.TheVariants.{Started as told_start, Timer as told_timer, Received as told_message}
+use Rattle.simulate_parts.specs.declared.engine.StepOut.{StepOut}
+use Rattle.simulate_parts.specs.declared.peer.Peer.{Peer}
+use Rattle.simulate_parts.specs.declared.seats.Running.{Running}
+use Rattle.simulate_parts.specs.declared.seats.Seat.{Seat}
+use Rattle.simulate_parts.specs.declared.tracker.FinalizationUpdate.{FinalizationUpdate}
+use Rattle.ledger_simulate.specs.Links.{link_of}
+use Rattle.ledger_simulate.specs.Messages.{delivered, lets_through, timers_of}
+use Rattle.ledger_simulate.specs.Queue.{AgendaView}
+use Rattle.ledger_simulate.specs.declared.event.Event.{Event}
+use Rattle.ledger_simulate.specs.declared.event.Event.TheVariants.{Started, Timer, Received, Act, CrashTick, ExitPoll, Recover}
+use Rattle.ledger_simulate.specs.declared.world.World.{World}
+
+-- the event is no timer and no message
+abbrev pub is_quiet : Event → Bool
+is_quiet (Started pk) = true
+is_quiet (Timer pk birth) = false
+is_quiet (Received from to channel bytes) = false
+is_quiet (Act action) = true
+is_quiet CrashTick = true
+is_quiet ExitPoll = true
+is_quiet (Recover pk) = true
+
+-- an engine that was started under a number below this one and runs afterwards ran before, and is as it was
+abbrev pub Survives : {D E S : Type 0} → ℕ → List (Peer × Seat D E S) → List (Peer × Seat D E S) → Type 0
+Survives {D} {E} {S} n old new =
+    (pk : Peer) → (r : Running D E S) → running_at new pk ≡ Some r → r.birth < n → running_at old pk ≡ Some r
+
+-- each engine that runs is its peer's, and was started under a number below this one
+abbrev pub Seated : {D E S : Type 0} → (E → Peer) → ℕ → List (Peer × Seat D E S) → Type 0
+Seated {D} {E} {S} peer_of n seats =
+    (pk : Peer) → (r : Running D E S) → running_at seats pk ≡ Some r → (peer_of r.engine ≡ pk) × (r.birth < n)
+
+-- the number of the event that is made next
+abbrev pub number_after : AgendaView → ℕ
+number_after a = a.next + length a.events
+
+-- more events were made, none of them a timer or a message
+pub record Adds (a b : AgendaView) : Type 0 where
+  pub added : List (ℕ × Event)
+  pub events : b.events ≡ a.events ++ added
+  pub next : b.next ≡ a.next
+  pub quiet : All (λ e. IsTrue (is_quiet e.1)) added
+
+-- engines may have been stopped, and new ones started under the numbers of events that were made
+pub record Stirs {D E S : Type 0} (peer_of : E → Peer) (a b : AgendaView) (u v : World D E S) : Type 0 where
+  pub adds : Adds a b
+  pub kept : Survives a.next u.seats.entries v.seats.entries
+  pub seated : Seated peer_of (number_after a) u.seats.entries → Seated peer_of (number_after b) v.seats.entries
+  pub rules : v.rules ≡ u.rules
+
+-- the same, and the words and the links stay
+pub record Disturbs {D E S : Type 0} (peer_of : E → Peer) (a b : AgendaView) (u v : World D E S) : Type 0 where
+  pub stirs : Stirs peer_of a b u v
+  pub words : v.words ≡ u.words
+  pub links : v.links ≡ u.links
+
+-- the messages that arrive of those that a peer sends while these engines run, and the words afterwards
+abbrev pub carried : {D E S : Type 0} → World D E S → List (Peer × Seat D E S) → Peer → List (Peer × ℕ × List ℕ) → List (ℕ × Event) × Lcg
+carried w seats pk messages =
+    delivered (lets_through w.rules.max_size w.rules.channels.items (runs seats) pk) (link_of w.links pk) w.words pk messages
+
+-- an engine took one step, and its timers and then its messages were made, in the order in which it gave them
+pub record Gives {D E S : Type 0} (peer_of : E → Peer) (journal : Option (E → List (StepEvent × StepOut))) (reports : Option (FinalizationUpdate → Bool)) (pk : Peer) (birth : ℕ) (event : StepEvent) (out : StepOut) (a b : AgendaView) (u v : World D E S) : Type 0 where
+  pub step : Steps peer_of journal reports pk event out u.seats.entries v.seats.entries
+  pub next : b.next ≡ a.next
+  pub events : b.events ≡ a.events ++ timers_of pk birth out.timers ++ (carried u v.seats.entries pk out.messages).0
+  pub words : v.words ≡ (carried u v.seats.entries pk out.messages).1
+  pub links : v.links ≡ u.links
+  pub rules : v.rules ≡ u.rules
+
+-- the number under which a peer's engine was started, where it runs and was started under this number, if
+-- one is given
+abbrev pub birth_at : {D E S : Type 0} → List (Peer × Seat D E S) → Peer → Option ℕ → Option ℕ
+birth_at seats pk None = option_map (λ r. r.birth) (running_at seats pk)
+birth_at seats pk (Some birth) = if runs_since seats pk birth then Some birth else None
+
+-- an engine took one step, and its reports were observed, with the failures that they set off
+pub record Turns {D E S : Type 0} (peer_of : E → Peer) (journal : Option (E → List (StepEvent × StepOut))) (reports : Option (FinalizationUpdate → Bool)) (pk : Peer) (birth : ℕ) (event : StepEvent) (a b : AgendaView) (us vs : List FinalizationUpdate) (u v : World D E S) : Type 0 where
+  pub out : StepOut
+  pub given : AgendaView
+  pub mid : World D E S
+  pub gives : Gives peer_of journal reports pk birth event out a given u mid
+  pub reported : vs ≡ us ++ updates_of pk out.finalized
+  pub disturbs : Disturbs peer_of given b mid v
+
+-- nothing happened
+abbrev pub Rests : {D E S : Type 0} → AgendaView → AgendaView → List FinalizationUpdate → List FinalizationUpdate → World D E S → World D E S → Type 0
+Rests a b us vs u v = (b ≡ a) × (vs ≡ us) × (v ≡ u)
+
+-- the engine that an event is for took a step, where it still runs
+abbrev pub Tells : {D E S : Type 0} → (E → Peer) → Option (E → List (StepEvent × StepOut)) → Option (FinalizationUpdate → Bool) → Peer → Option ℕ → StepEvent → AgendaView → AgendaView → List FinalizationUpdate → List FinalizationUpdate → World D E S → World D E S → Type 0
+Tells peer_of journal reports pk birth event a b us vs u v =
+    MatchOption (birth_at u.seats.entries pk birth) (Rests a b us vs u v) (λ n. Turns peer_of journal reports pk n event a b us vs u v)
+
+-- an event that is for no engine was handled
+abbrev pub Surrounds : {D E S : Type 0} → (E → Peer) → AgendaView → AgendaView → List FinalizationUpdate → List FinalizationUpdate → World D E S → World D E S → Type 0
+Surrounds peer_of a b us vs u v = (vs ≡ us) × Stirs peer_of a b u v
+
+-- the event of this time and number was handled
+abbrev pub Handles : {D E S : Type 0} → (E → Peer) → Option (E → List (StepEvent × StepOut)) → Option (FinalizationUpdate → Bool) → ℕ × ℕ → Event → AgendaView → AgendaView → List FinalizationUpdate → List FinalizationUpdate → World D E S → World D E S → Type 0
+Handles peer_of journal reports key (Started pk) a b us vs u v = Tells peer_of journal reports pk (Some key.1) told_start a b us vs u v
+Handles peer_of journal reports key (Timer pk birth) a b us vs u v = Tells peer_of journal reports pk (Some birth) (told_timer key.0) a b us vs u v
+Handles peer_of journal reports key (Received from to channel bytes) a b us vs u v = Tells peer_of journal reports to None (told_message from channel bytes) a b us vs u v
+Handles peer_of journal reports key (Act action) a b us vs u v = Surrounds peer_of a b us vs u v
+Handles peer_of journal reports key CrashTick a b us vs u v = Surrounds peer_of a b us vs u v
+Handles peer_of journal reports key ExitPoll a b us vs u v = Surrounds peer_of a b us vs u v
+Handles peer_of journal reports key (Recover pk) a b us vs u v = Surrounds peer_of a b us vs u v
+
+-- a list has grown at its end by reports that pass the test, where one is told
+pub record Grows (reports : Option (FinalizationUpdate → Bool)) (before after : List FinalizationUpdate) : Type 0 where
+  pub added : List FinalizationUpdate
+  pub is : after ≡ before ++ added
+  pub passes : All (Passes reports) added
