@@ -9,8 +9,6 @@ import re
 import sys
 
 MAX = 2**64 - 1
-# The program takes no rounds yet: their lines offend.
-ROUNDS = False
 NAME = re.compile(rb"[a-z0-9_-]{1,32}\Z")
 HEX = re.compile(rb"0x[0-9a-fA-F]{64}\Z")
 NUMBER = re.compile(rb"(0|[1-9][0-9]*)\Z")
@@ -77,7 +75,7 @@ def parse(text):
                 limited = True
             elif word == b"body" and not fields:
                 blocks.append(("body", []))
-            elif word == b"rounds" and not fields and ROUNDS:
+            elif word == b"rounds" and not fields:
                 blocks.append(("rounds", []))
             elif word == b"round" and not fields and blocks and blocks[-1][0] == "rounds":
                 blocks[-1][1].append([])

@@ -54,13 +54,13 @@ takes_payments InBody = true
 takes_payments InRound = true
 takes_payments _ = false
 
--- whether a line may stand in a section, behind limits or not; no job has rounds yet
+-- whether a line may stand in a section, behind limits or not
 abbrev pub fits : Section → Bool → Line → Bool
 fits section limited Skipped = true
 fits section limited (Open account) = is_opening section
 fits section limited (Limits limits) = is_opening section && not limited
 fits section limited Body = true
-fits section limited Rounds = false
+fits section limited Rounds = true
 fits section limited Round = is_in_rounds section
 fits section limited (Pay payment) = takes_payments section
 

@@ -56,14 +56,12 @@ pub(crate) fn is_limits(line: &Line) -> bool
     matches!(line, Line::Limits(_))
 }
 
-/// Whether a line may stand in a section, behind limits or not. Rounds offend: no block of rounds is settled
-/// yet.
+/// Whether a line may stand in a section, behind limits or not.
 pub(crate) fn fits(section: Section, limited: bool, line: &Line) -> bool
     ensures { result ≡ fits section limited line.now }
 {
     match line {
-        Line::Skipped | Line::Body => true,
-        Line::Rounds => false,
+        Line::Skipped | Line::Body | Line::Rounds => true,
         Line::Open(_) => section.is_opening(),
         Line::Limits(_) => section.is_opening() && !limited,
         Line::Round => section.is_in_rounds(),

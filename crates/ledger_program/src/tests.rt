@@ -10,6 +10,8 @@ use std::test::Fail;
 use std::thread::Threads;
 use sync_net::{DialFailed, Dialer, ErrorCode, Link, LinkError};
 
+mod rounds;
+
 /// A dialer that is never called.
 #[derive(Drop)]
 struct Nowhere;

@@ -1,5 +1,5 @@
 -- What settling blocks of transfers makes of a list of operations.
-use Rattle.std.specs.Prelude.{◌≡◌, ℕ, ◌+◌, ◌-◌, ◌^◌, ◌<◌, ◌≤◌, ◌++◌, Bool, true, false, not, List, [], ◌∷◌, length, map, filter, filter_map, take, slice_get, Option, None, Some, IsSome, MatchBool, MatchOption, unwrap_or, option_map, option_and_then, if◌then◌else◌, bytes_eq, All, count_ones, ⊤, ◌⊎◌}
+use Rattle.std.specs.Prelude.{◌≡◌, ℕ, ◌+◌, ◌-◌, ◌^◌, ◌<◌, ◌≤◌, ◌++◌, Bool, true, false, not, List, [], ◌∷◌, length, map, filter, filter_map, take, slice_get, Option, None, Some, IsSome, MatchOption, unwrap_or, option_map, option_and_then, if◌then◌else◌, bytes_eq, All, count_ones, ⊤, ◌⊎◌}
 use Rattle.std.specs.List.{flat_map, last_or}
 use Rattle.ledger_log.specs.Any.{any_floor, any_write, any_spelling}
 use Rattle.ledger_log.specs.View.{LogView, value_at, log_root}
@@ -9,6 +9,7 @@ use Rattle.ledger_merkle.specs.Tree.{part_root}
 use Rattle.ledger_transfers.specs.Rules.{Rules, SameOutcome}
 use Rattle.ledger_transfers.specs.Touches.{touches, total_of, IsSumOffence, IsWithinSums}
 use Rattle.ledger_transfers.specs.Settling.{opened, after, slot_of, Settled, HasFirstOffence}
+use Rattle.ledger_transfers.specs.Greedy.{AreGreedy, taken}
 use Rattle.ledger_transfers.specs.declared.change.Change.{Change}
 use Rattle.ledger_transfers.specs.declared.fault.Rejection.{Rejection}
 use Rattle.ledger_transfers.specs.declared.slot.Slot.{Slot}
@@ -98,18 +99,6 @@ abbrev pub joined : {X : Type 0} → List (List X) → List X
 joined xss = flat_map (λ xs. xs) xss
 
 module _ {T : Type 0} where
-  -- each candidate is taken exactly where those taken before it settle with it
-  abbrev pub AreGreedy : (List T → Type 0) → List T → List T → List Bool → Type 0
-  AreGreedy Settles before [] [] = ⊤
-  AreGreedy Settles before (c ∷ cs) (v ∷ vs) =
-      MatchBool v (Settles (before ++ c ∷ [])) (Settles (before ++ c ∷ []) → ⊥) × AreGreedy Settles (if v then before ++ c ∷ [] else before) cs vs
-  AreGreedy Settles before cs vs = ⊥
-
-  -- the candidates that were taken
-  abbrev pub taken : List T → List Bool → List T
-  taken (c ∷ cs) (v ∷ vs) = if v then c ∷ taken cs vs else taken cs vs
-  taken cs vs = []
-
   -- the batch that a block settles: its body, or the candidates that were taken
   abbrev pub batch_of : Block T → BlockVerdicts → List T
   batch_of (Body batch) verdicts = batch

@@ -42,7 +42,8 @@ pub(crate) fn append_slots<A: AccountValue>(
 {
     let order = touched_keys(alloc, touched)?;
     let mut ops = write_slots(alloc, accounts, order.as_slice(), slots)?;
-    ops.push(AnyOp::CommitFloor(None, log.floor()))?;
+    let floor = log.floor();
+    ops.push(AnyOp::CommitFloor(None, floor))?;
     match log.append_batch(&ops) {
         Ok(()) => Ok(()),
         Err(fault) => Err(append_fault(block, fault)),

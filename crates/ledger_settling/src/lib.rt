@@ -3,7 +3,7 @@
 //! ```text
 //!   Part --open--> Log --replay--> accounts
 //!                   ^                 |
-//!                   |        per block: plan --> slots
+//!                   |        per block: plan or selection --> slots
 //!                   +--append_batch-- one operation per changed key, and a commit
 //! ```
 //!
@@ -17,6 +17,7 @@ mod fault;
 mod open;
 mod replay;
 mod report;
+mod rounds;
 mod settle;
 mod slots;
 

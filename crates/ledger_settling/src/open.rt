@@ -81,12 +81,13 @@ pub fn settle_log<
         let verdict = settle_block(rt, alloc, &mut log, &mut accounts, place, block, strategy)?;
         verdicts.push(verdict)?;
     }
+    let root = log.root();
     Ok(Report {
         start: target.start,
         end: target.end,
         pinned: List::from_vec(pinned),
         kept: List::from_vec(kept),
-        root: log.root(),
+        root,
         size: log.size(),
         log,
         accounts,

@@ -7,6 +7,7 @@ ghost use Rattle.ledger_settling.specs.Slots.{BodyFails, BlockFails};
 use crate::append::append_slots;
 use crate::fault::ReportFault;
 use crate::report::Accounts;
+use crate::rounds::settle_rounds;
 use crate::slots::body_slots;
 use ledger_job::{Block, BlockVerdicts};
 use ledger_log::{AnyFamily, Key, Log};
@@ -76,7 +77,17 @@ pub(crate) fn settle_block<
             settle_body(rt, alloc, log, accounts, place, batch.as_slice(), strategy)?;
             Ok(BlockVerdicts::Body)
         }
-        // No job has rounds yet: the selection that chooses among them isn't joined to the log.
-        Block::Rounds(_) => Err(ReportFault::OutOfMemory),
+        Block::Rounds(rounds) => {
+            let verdicts = settle_rounds(
+                rt,
+                alloc,
+                log,
+                accounts,
+                place,
+                rounds.as_slice(),
+                strategy,
+            )?;
+            Ok(BlockVerdicts::Rounds(verdicts))
+        }
     }
 }

@@ -61,7 +61,7 @@ pub(crate) fn touched_keys<E: Copy>(
 }
 
 /// The accounts under these keys.
-fn reads_of<A: AccountValue>(
+pub(crate) fn reads_of<A: AccountValue>(
     alloc: Global,
     accounts: &Accounts<A>,
     keys: &[Key],

@@ -68,5 +68,5 @@ returns-clause-report g c =
       nodes = c.loop-place.invariant.pinned ∙ sym pin;
       accounts = c.loop-place.invariant.accounts;
       size = c.size.ensures.size ∙ ap (λ n. n + length log.ops) front;
-      root = c.root.ensures ∙ report_root log c.args.target.now.start c.from_vec.result front (c.loop-place.invariant.pinned ∙ sym pin);
+      root = c.root-root.ensures ∙ report_root log c.args.target.now.start c.from_vec.result front (c.loop-place.invariant.pinned ∙ sym pin);
     }

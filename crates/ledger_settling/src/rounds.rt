@@ -1,0 +1,199 @@
+//! Rounds of candidates, chosen one round after another, and what was taken settled as one batch.
+//!
+//! ```text
+//!   a round --touch--> new keys --reads--> register --apply--> verdicts
+//!                                                        |
+//!   after the last round: what was taken --settle--> slots --> append_slots
+//! ```
+ghost use Rattle.std.specs.Prelude.{◌≡◌, ◌≤◌, ◌++◌, ◌∷◌, [], ℕ, List as Items, IfOk, IfErr, OnOk, IsSome, length, map, drop, filter, not, bytes_eq, if◌then◌else◌};
+ghost use Rattle.std.specs.List.{All, flat_map};
+ghost use Rattle.std.specs.Map.{lookup};
+ghost use Rattle.std.specs.BTreeMap.{BTreeMap};
+ghost use Rattle.ledger_job.specs.declared.block.Block.TheVariants.{Rounds};
+ghost use Rattle.ledger_job.specs.declared.block.BlockVerdicts.TheVariants.{Rounds as Verdicts};
+ghost use Rattle.ledger_transfers.specs.Changes.{is_empty_change};
+ghost use Rattle.ledger_transfers.specs.Greedy.{taken};
+ghost use Rattle.ledger_transfers.specs.Selecting.{StandsFor};
+ghost use Rattle.ledger_transfers.specs.Touches.{touches};
+ghost use Rattle.ledger_settling.specs.Blocks.{meaning, grown, joined, batch_of, Settles};
+ghost use Rattle.ledger_settling.specs.Reports.{IsReplay};
+ghost use Rattle.ledger_settling.specs.Rounds.{AreOpened, AreChosen};
+ghost use Rattle.ledger_settling.specs.Slots.{AreReads, AreSlotsOf, BlockFails, opening_of};
+
+use crate::append::append_slots;
+use crate::fault::ReportFault;
+use crate::report::Accounts;
+use crate::slots::{Slots, key_set, reads_of};
+use ledger_codec::{List, OutOfMemory};
+use ledger_log::{AnyFamily, Key, Log};
+use ledger_managed::AccountValue;
+use ledger_merkle::Sha256Hasher;
+use ledger_strategy::Strategy;
+use ledger_transfers::{Account, Change, Selection, Transfer};
+use std::alloc::Global;
+use std::random::RandomSource;
+use std::thread::Threads;
+
+/// The accounts under the keys from a place on.
+fn reads_from<A: AccountValue>(
+    alloc: Global,
+    accounts: &Accounts<A>,
+    keys: &[Key],
+    first: usize,
+) -> Result<Vec<Option<A>>, OutOfMemory>
+    requires { first ≤ length keys.now }
+    ensures all { IfOk result (λ reads. length reads.items ≡ length (drop first keys.now)) }
+    ensures each { IfOk result (λ reads. AreReads A.eq accounts.now (drop first keys.now) reads.items) }
+{
+    reads_of(alloc, accounts, &keys[first..])
+}
+
+/// Takes up the keys of a round, with their accounts.
+fn open_round<T: Transfer<Key = Key, Account = A>, A: AccountValue>(
+    alloc: Global,
+    selection: &mut Selection<Key, A>,
+    accounts: &Accounts<A>,
+    round: &[T],
+) -> Result<(), OutOfMemory>
+    requires { AreOpened A.eq accounts.now selection.old.0 selection.old.1 }
+    ensures opened { OnOk result (AreOpened A.eq accounts.now selection.new.0 selection.new.1) }
+    ensures keeps { OnOk result ((ts : _) → StandsFor bytes_eq A.eq A.rules selection.old.1 ts → StandsFor bytes_eq A.eq A.rules selection.new.1 ts) }
+    ensures registered { OnOk result (All (λ t. IsSome (lookup (bytes_eq t.0) selection.new.1)) (touches T.changes_of round.now)) }
+{
+    let new = selection.touch(alloc, round)?;
+    let reads = reads_from(alloc, accounts, selection.keys(), new.start)?;
+    match selection.register(reads) {
+        Ok(()) => Ok(()),
+        Err(_) => Err(OutOfMemory),
+    }
+}
+
+/// Appends the changes of a candidate, if it was taken.
+fn push_taken<T: Transfer<Key = Key>>(
+    changes: &mut Vec<(Key, Change<<T::Account as Account>::Effect>)>,
+    candidate: &T,
+    verdict: bool,
+) -> Result<(), OutOfMemory>
+    ensures { OnOk result (changes.new.items ≡ changes.old.items ++ (if verdict then T.changes_of candidate.now else [])) }
+{
+    if verdict {
+        candidate.changes(changes)
+    } else {
+        Ok(())
+    }
+}
+
+/// Appends the changes of the candidates of a round that were taken.
+fn push_round<T: Transfer<Key = Key>>(
+    changes: &mut Vec<(Key, Change<<T::Account as Account>::Effect>)>,
+    round: &[T],
+    verdicts: &[bool],
+) -> Result<(), OutOfMemory>
+    requires { length verdicts.now ≡ length round.now }
+    ensures { OnOk result (changes.new.items ≡ changes.old.items ++ flat_map T.changes_of (taken round.now verdicts.now)) }
+{
+    for place in 0..round.len() {
+        push_taken(changes, &round[place], verdicts[place])?;
+    }
+    Ok(())
+}
+
+/// Chooses the candidates of a round behind what was taken before.
+fn choose_round<T: Transfer<Key = Key, Account = A>, A: AccountValue>(
+    alloc: Global,
+    selection: &mut Selection<Key, A>,
+    accounts: &Accounts<A>,
+    changes: &mut Vec<(Key, Change<A::Effect>)>,
+    round: &[T],
+) -> Result<List<bool>, OutOfMemory>
+    requires { AreOpened A.eq accounts.now selection.old.0 selection.old.1 }
+    ensures opened { OnOk result (AreOpened A.eq accounts.now selection.new.0 selection.new.1) }
+    ensures all { IfOk result (λ verdicts. length verdicts ≡ length round.now) }
+    ensures chosen { IfOk result (λ verdicts. AreChosen A.eq A.rules T.changes_of accounts.now selection.old.1 selection.new.1 round.now verdicts) }
+    ensures changes { IfOk result (λ verdicts. changes.new.items ≡ changes.old.items ++ flat_map T.changes_of (taken round.now verdicts)) }
+{
+    open_round(alloc, selection, accounts, round)?;
+    let verdicts = match selection.apply(alloc, round) {
+        Ok(verdicts) => verdicts,
+        Err(_) => return Err(OutOfMemory),
+    };
+    push_round(changes, round, &verdicts)?;
+    Ok(List::from_vec(verdicts))
+}
+
+/// Chooses the candidates of each round behind those that were taken before.
+fn choose_rounds<T: Transfer<Key = Key, Account = A>, A: AccountValue>(
+    alloc: Global,
+    selection: &mut Selection<Key, A>,
+    accounts: &Accounts<A>,
+    changes: &mut Vec<(Key, Change<A::Effect>)>,
+    rounds: &[List<T>],
+) -> Result<Vec<List<bool>>, OutOfMemory>
+    requires { AreOpened A.eq accounts.now selection.old.0 selection.old.1 }
+    ensures opened { OnOk result (AreOpened A.eq accounts.now selection.new.0 selection.new.1) }
+    ensures cut { IfOk result (λ verdicts. map length verdicts.items ≡ map length rounds.now) }
+    ensures chosen { IfOk result (λ verdicts. AreChosen A.eq A.rules T.changes_of accounts.now selection.old.1 selection.new.1 (joined rounds.now) (joined verdicts.items)) }
+    ensures changes { IfOk result (λ verdicts. changes.new.items ≡ changes.old.items ++ flat_map T.changes_of (taken (joined rounds.now) (joined verdicts.items))) }
+{
+    let mut verdicts = Vec::new(alloc);
+    for round in rounds {
+        let chosen = choose_round(alloc, selection, accounts, changes, round.as_slice())?;
+        verdicts.push(chosen)?;
+    }
+    Ok(verdicts)
+}
+
+/// The slots of what a selection took.
+fn selected_slots<R: Threads + Sync, A: AccountValue, S: Strategy>(
+    rt: &R,
+    alloc: Global,
+    selection: Selection<Key, A>,
+    accounts: &Accounts<A>,
+    strategy: &S,
+) -> Result<Slots<A>, OutOfMemory>
+    requires { AreOpened A.eq accounts.now selection.0 selection.1 }
+    ensures { IfOk result (λ s. (ts : _) → StandsFor bytes_eq A.eq A.rules selection.1 ts → AreSlotsOf A.eq A.rules (opening_of A.rules accounts.now) ts s.keys.keys s.slots.items) }
+{
+    let keys = key_set(alloc, selection.keys())?;
+    let slots = selection.settle(rt, alloc, strategy)?;
+    Ok(Slots { keys, slots })
+}
+
+/// Takes out the empty changes.
+fn drop_empty<E: Copy>(changes: &mut Vec<(Key, Change<E>)>)
+    ensures { changes.new.items ≡ filter (λ t. not (is_empty_change t.1)) changes.old.items }
+{
+    changes.retain(|change| !change.1.is_empty());
+}
+
+/// Chooses the candidates of a block of rounds and settles what was taken on the log.
+pub(crate) fn settle_rounds<
+    R: RandomSource + Threads + Sync,
+    T: Transfer<Key = Key, Account = A>,
+    A: AccountValue,
+    S: Strategy,
+>(
+    rt: &R,
+    alloc: Global,
+    log: &mut Log<AnyFamily, Sha256Hasher>,
+    accounts: &mut Accounts<A>,
+    place: usize,
+    rounds: &[List<T>],
+    strategy: &S,
+) -> Result<List<List<bool>>, ReportFault>
+    requires { IsReplay A.eq A.values accounts.old log.old.ops }
+    ensures settles { IfOk result (λ v. Settles (meaning T.changes_of A.eq A.rules A.values) log.old.ops (Rounds rounds.now) (Verdicts v)) }
+    ensures grown { IfOk result (λ v. log.new ≡ record log.old { ops = grown (meaning T.changes_of A.eq A.rules A.values) log.old.ops (taken (joined rounds.now) (joined v)) }) }
+    ensures accounts { OnOk result (IsReplay A.eq A.values accounts.new log.new.ops) }
+    ensures fails { IfErr result (BlockFails (meaning T.changes_of A.eq A.rules A.values) log.old place (Rounds rounds.now)) }
+{
+    let mut selection = Selection::new(rt, alloc);
+    let mut changes = Vec::new(alloc);
+    let verdicts = choose_rounds(alloc, &mut selection, accounts, &mut changes, rounds)?;
+    let slots = selected_slots(rt, alloc, selection, accounts, strategy)?;
+    drop_empty(&mut changes);
+    match append_slots(alloc, log, accounts, place, &changes, &slots) {
+        Ok(()) => Ok(List::from_vec(verdicts)),
+        Err(fault) => Err(fault),
+    }
+}
