@@ -1,5 +1,5 @@
 -- That the value of a sequenced account keeps the laws.
-use Rattle.std.proofs.Common.{◌≡◌, ℕ, ◌+◌, ◌<◌, ◌++◌, zero, suc, [], ◌∷◌, ◌≤◌, lit<, length-append, Bool, true, false, cond, List, length, get_or, take, drop, Option, Some, None, refl, ap, sym, ◌∙◌, subst, arith, append_assoc, length-drop, bytes_eq, ◌&&◌, nat_eq}
+use Rattle.std.proofs.Common.{◌≡◌, ℕ, ◌+◌, ◌*◌, ◌/◌, ◌%◌, ◌^◌, ◌<◌, ◌++◌, zero, suc, [], ◌∷◌, ◌≤◌, lit<, length-append, Bool, true, false, cond, List, length, get_or, take, drop, Option, Some, None, refl, ap, sym, ◌∙◌, subst, arith, append_assoc, length-drop, bytes_eq, ◌&&◌, nat_eq}
 use Rattle.std.specs.Int.{w64, to_be_bytes, from_be_bytes}
 use Rattle.std.proofs.lemmas.Nat.{from_be_bytes-to_be_bytes_8, be_bytes_8}
 use Rattle.std.specs.Cmp.Lexicographic.{bytes_decides}
@@ -59,6 +59,32 @@ reads_back a s = by (to_be_bytes w64 a.balance) (to_be_bytes w64 a.nonce) refl r
         } in
         subst (λ c. SameOutcome sequenced_same (Some a) (cond c (Some (account_of ((x ++ y) ++ padding))) None)) (sym same)
         (subst (λ c. sequenced_same a c ≡ true) (sym one) (sequenced_alike a))
+
+weighed : (a b c d e f g h : ℕ) → a < 256 → b < 256 → c < 256 → d < 256 → e < 256 → f < 256 → g < 256 → h < 256
+    → h * 72057594037927936 + g * 281474976710656 + f * 1099511627776 + e * 4294967296 + d * 16777216 + c * 65536 + b * 256 + a < 2 ^ 64
+weighed a b c d e f g h p q r s t u v w = omega (arith, p, q, r, s, t, u, v, w)
+
+last_byte : (n : ℕ) → n % 256 < 256
+last_byte n = omega arith
+
+-- what eight bytes of any number spell has 64 bits
+bytes_bound : (n : ℕ) → from_be_bytes w64 (to_be_bytes w64 n) < 2 ^ 64
+bytes_bound n =
+    weighed (n % 256) (n / 256 % 256) (n / 65536 % 256) (n / 16777216 % 256) (n / 4294967296 % 256) (n / 1099511627776 % 256) (n / 281474976710656 % 256) (n / 72057594037927936 % 256)
+    (last_byte n) (last_byte (n / 256)) (last_byte (n / 65536)) (last_byte (n / 16777216)) (last_byte (n / 4294967296)) (last_byte (n / 1099511627776)) (last_byte (n / 281474976710656)) (last_byte (n / 72057594037927936))
+
+-- the value of an account reads as an account, whose balance has 64 bits
+pub value_reads : (a : Sequenced) → (b : Sequenced) × (read_sequenced (sequenced_value a) ≡ Some b) × (b.balance < 2 ^ 64)
+unfolding sequenced_value read_sequenced
+value_reads a = by (to_be_bytes w64 a.balance) (to_be_bytes w64 a.nonce) refl refl (bytes_bound a.balance)
+  where
+    by : (x y : List ℕ) → length x ≡ 8 → length y ≡ 8 → from_be_bytes w64 x < 2 ^ 64
+        → (b : Sequenced) × (cond (bytes_eq (drop 16 ((x ++ y) ++ padding)) padding) (Some (account_of ((x ++ y) ++ padding))) None ≡ Some b) × (b.balance < 2 ^ 64)
+    by x y p q f = (
+      account_of ((x ++ y) ++ padding),
+      ap (λ c. cond c (Some (account_of ((x ++ y) ++ padding))) None) ((bytes_decides (drop 16 ((x ++ y) ++ padding)) padding).1 (padding_part x y padding p q)),
+      subst (λ z. from_be_bytes w64 z < 2 ^ 64) (sym (balance_part x y padding p q)) f,
+    )
 
 take_within : (n : ℕ) (v : List ℕ) (i : ℕ) → ((j : ℕ) → get_or v j 0 < 256) → get_or (take n v) i 0 < 256
 take_within zero v i h = lit< tt

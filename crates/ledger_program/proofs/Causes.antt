@@ -1,6 +1,6 @@
 -- The causes of a run's faults, from those of its parts.
-use Rattle.std.proofs.Common.{◌≡◌, ℕ, Bool, true, List, Option, Some, None, refl, subst, sym}
-use Rattle.std.specs.Prelude.{IfSome}
+use Rattle.std.proofs.Common.{◌≡◌, ◌∙◌, ℕ, Bool, true, List, Option, Some, None, refl, subst, sym, ap}
+use Rattle.std.specs.Prelude.{IfSome, slice_get}
 use Rattle.ledger_job.specs.declared.block.Block.{Block}
 use Rattle.ledger_job.specs.declared.job.Job.{Job}
 use Rattle.ledger_job.specs.declared.payment.Payment.{Payment}
@@ -14,10 +14,12 @@ use Rattle.ledger_program.specs.declared.fault.Fault.TheVariants.{Network, Reque
 use Rattle.ledger_program.specs.declared.outcome.RunFault.{RunFault}
 use Rattle.ledger_program.specs.declared.outcome.RunFault.TheVariants.{Usage, BadJob, JobRead, JobTooLarge, Dial, Follow, Output, OutOfMemory}
 use Rattle.ledger_settling.specs.Faults.{RunFails}
+use Rattle.ledger_settling.specs.Reports.{IsWhole}
+use Rattle.ledger_program.proofs.Locals.{served_readable}
 use Rattle.ledger_settling.specs.declared.fault.ReportFault.{ReportFault}
 use Rattle.ledger_settling.specs.declared.fault.ReportFault.TheVariants.{BadLog as NoLog, BadValue as NoValue, Rejected as BlockRejected, Full as LogFull, OutOfMemory as NoMemory}
 
-module _ (job : Job) (target : Target) (kept : List AnyOp) (blocks : List (Block Payment)) (is : IsServed job target) (k : kept ≡ served job.opens) (b : blocks ≡ job.blocks) where
+module _ (job : Job) (target : Target) (kept : List AnyOp) (blocks : List (Block Payment)) (is : IsServed job target) (k : kept ≡ served job.opens) (b : blocks ≡ job.blocks) (w : IsWhole target.start kept) where
   fails_job : (cause : ReportFault) → RunFails payments target kept blocks cause → FailsJob job (fault_of cause)
   fails_job cause f = record {
     target = target;
@@ -29,8 +31,8 @@ module _ (job : Job) (target : Target) (kept : List AnyOp) (blocks : List (Block
 
   -- what keeps the report away keeps the job's report away
   pub local_fails : (cause : ReportFault) → RunFails payments target kept blocks cause → LocalFails job (run_fault_of cause)
-  local_fails (NoLog location) f = fails_job (NoLog location) f
-  local_fails (NoValue location) f = fails_job (NoValue location) f
+  local_fails (NoLog location) f = absurd (f.1 w)
+  local_fails (NoValue location) f = absurd (served_readable job.opens f.1.place f.1.op (sym (ap (λ ops. slice_get ops f.1.place) k) ∙ f.1.at) f.1.unreadable)
   local_fails (BlockRejected block rejection) f = fails_job (BlockRejected block rejection) f
   local_fails (LogFull block) f = fails_job (LogFull block) f
   local_fails NoMemory f = tt
@@ -46,16 +48,16 @@ attempted form left before now job (BadJob line) e j f = absurd f
 attempted form left before now job JobRead e j f = absurd f
 attempted form left before now job JobTooLarge e j f = absurd f
 attempted form left before now job Dial e j f = absurd f
-attempted form left before now job (Follow Network) e j f = (e, unfollowed left job Network j f)
-attempted form left before now job (Follow RequestChannelClosed) e j f = (e, unfollowed left job RequestChannelClosed j f)
-attempted form left before now job (Follow InvalidResponse) e j f = (e, unfollowed left job InvalidResponse j f)
-attempted form left before now job (Follow (UnexpectedResponse number)) e j f = (e, unfollowed left job (UnexpectedResponse number) j f)
-attempted form left before now job (Follow (Server code text)) e j f = (e, unfollowed left job (Server code text) j f)
-attempted form left before now job (Follow (InvalidProof number)) e j f = (e, unfollowed left job (InvalidProof number) j f)
-attempted form left before now job (Follow TooManyStrays) e j f = (e, unfollowed left job TooManyStrays j f)
-attempted form left before now job (Follow (WrongRoot found)) e j f = (e, unfollowed left job (WrongRoot found) j f)
-attempted form left before now job (Follow (BadLog location)) e j f = (e, unfollowed left job (BadLog location) j f)
-attempted form left before now job (Follow (BadValue location)) e j f = (e, unfollowed left job (BadValue location) j f)
+attempted form left before now job (Follow Network) e j f = absurd f
+attempted form left before now job (Follow RequestChannelClosed) e j f = absurd f
+attempted form left before now job (Follow InvalidResponse) e j f = absurd f
+attempted form left before now job (Follow (UnexpectedResponse number)) e j f = absurd f
+attempted form left before now job (Follow (Server code text)) e j f = absurd f
+attempted form left before now job (Follow (InvalidProof number)) e j f = absurd f
+attempted form left before now job (Follow TooManyStrays) e j f = absurd f
+attempted form left before now job (Follow (WrongRoot found)) e j f = absurd f
+attempted form left before now job (Follow (BadLog location)) e j f = absurd f
+attempted form left before now job (Follow (BadValue location)) e j f = absurd f
 attempted form left before now job (Follow (Rejected block rejection)) e j f = (e, unfollowed left job (Rejected block rejection) j f)
 attempted form left before now job (Follow (Full block)) e j f = (e, unfollowed left job (Full block) j f)
 attempted form left before now job (Follow FollowMemory) e j f = absurd f

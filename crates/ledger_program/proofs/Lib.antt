@@ -3,3 +3,5 @@ pub mod Fronts
 pub mod Names
 pub mod Lines
 pub mod Locals
+pub mod Rooms
+pub mod Completeness

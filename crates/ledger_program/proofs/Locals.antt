@@ -1,6 +1,7 @@
 -- The log that a job serves, and its target.
-use Rattle.std.proofs.Common.{◌≡◌, ℕ, ◌+◌, ◌^◌, ◌<◌, ◌≤◌, List, [], ◌∷◌, ◌++◌, length, map, Option, Some, None, Result, Err, refl, sym, ◌∙◌, ap, subst, arith, nat_le, nat_lt, cond, Bool, true, false, zero-add, length-append}
-use Rattle.std.specs.Prelude.{MatchOption, IsOkUnless, count_ones}
+use Rattle.std.proofs.Common.{◌≡◌, ℕ, zero, suc, ◌+◌, ◌^◌, ◌<◌, ◌≤◌, List, [], ◌∷◌, ◌++◌, length, map, Option, Some, None, Result, Err, refl, sym, ◌∙◌, ap, subst, arith, nat_le, nat_lt, cond, Bool, true, false, zero-add, length-append, true≢false}
+use Rattle.std.specs.Prelude.{MatchOption, IsOkUnless, count_ones, slice_get, is_some, unwrap_or}
+use Rattle.std.specs.List.{AllByRecursion}
 use Rattle.sha2.specs.Sha256.{sha256}
 use borrow.Author.Tests.{tests}
 use Rattle.std.proofs.Common.{rules}
@@ -9,13 +10,16 @@ use Rattle.ledger_log.specs.Any.{any_floor, any_spelling}
 use Rattle.ledger_log.specs.Faults.{parts_refusal, floor_refusal}
 use Rattle.ledger_log.specs.View.{LogView, last_floor, log_size, log_root}
 use Rattle.ledger_log.specs.declared.any.AnyOp.{AnyOp}
-use Rattle.ledger_log.specs.declared.any.AnyOp.TheVariants.{CommitFloor}
+use Rattle.ledger_log.specs.declared.any.AnyOp.TheVariants.{Update, CommitFloor}
 use Rattle.ledger_log.specs.declared.fault.LogFault.{LogFault}
 use Rattle.ledger_log.specs.declared.fault.LogFault.TheVariants.{OutOfMemory as LogMemory, Size}
 use Rattle.ledger_log.specs.declared.target.Target.{Target}
 use Rattle.ledger_settling.proofs.RunLemmas.{report_root}
 use Rattle.ledger_program.specs.Run.{SpansLog}
-use Rattle.ledger_program.specs.Served.{served, update_of, IsServedList, IsLongOrMemory}
+use Rattle.ledger_managed.specs.Spelled.{sequenced_value, sequenced_values, read_sequenced}
+use Rattle.ledger_managed.specs.SpelledProofs.{value_reads}
+use Rattle.ledger_settling.specs.Faults.{IsUnreadable}
+use Rattle.ledger_program.specs.Served.{served, update_of, opened_of, IsServedList, IsLongOrMemory}
 
 -- the target of a log that begins at 0
 pub spans_log : (target : Target) (log : LogView AnyOp) → log.front ≡ 0 → log.pinned ≡ [] → target.root ≡ log_root sha256 any_spelling log → target.start ≡ 0 → target.end ≡ log_size log → SpansLog target log
@@ -41,6 +45,15 @@ last_of (x ∷ y ∷ ys) = last_of (y ∷ ys)
 pub served_floor : (accounts : List Open) → last_floor any_floor (served accounts) ≡ Some 0
 unfolding served
 served_floor accounts = last_of (CommitFloor None 0 ∷ map update_of accounts)
+
+no_update : (metadata : Option (List ℕ)) (floor : ℕ) (key value : List ℕ) → CommitFloor metadata floor ≡ Update key value → ⊥
+no_update metadata floor key value e = absurd cc
+
+value_of_update : (key value k v : List ℕ) → Update key value ≡ Update k v → value ≡ v
+value_of_update key value k v e = cc
+
+some_or_none : {X : Type 0} {x : X} → Some x ≡ None → ⊥
+some_or_none e = absurd cc
 
 served_long : (accounts : List Open) → 0 < length (served accounts)
 unfolding served
@@ -73,3 +86,23 @@ served_fails r fault ops pinned (accounts, is) p q m =
     let why : parts_refusal any_floor (record { front = 0; pinned = pinned; ops = ops }) ≡ cond (nat_le (0 + length ops) (2 ^ 62)) None (Some Size) =
     ap (λ ps. parts_refusal any_floor (record { front = 0; pinned = ps; ops = ops })) p ∙ served_refusal ops floor long in
     long_or_memory (nat_le (0 + length ops) (2 ^ 62)) r fault q (subst (λ o. MatchOption o (IsOkUnless r LogMemory) (λ g. r ≡ Err g)) why m)
+
+-- each value of a served log is an account
+each_readable : (accounts : List Open) → AllByRecursion (λ op. IsUnreadable sequenced_values op → ⊥) (map update_of accounts ++ CommitFloor None 0 ∷ [])
+each_readable [] = ((λ u. no_update None 0 u.key u.value u.is), tt)
+each_readable (a ∷ accounts) = (
+  (λ u.
+      let reads = value_reads (opened_of a) in
+      let same : sequenced_value (opened_of a) ≡ u.value = value_of_update a.key (sequenced_value (opened_of a)) u.key u.value u.is in
+      some_or_none (sym reads.1 ∙ ap read_sequenced same ∙ u.unreadable)),
+  each_readable accounts,
+)
+
+by_place : {X : Type 0} (P : X → Type 0) (xs : List X) (i : ℕ) (x : X) → AllByRecursion P xs → slice_get xs i ≡ Some x → P x
+by_place P [] i x h at = absurd (true≢false (sym (ap is_some at)))
+by_place P (y ∷ ys) zero x h at = subst P (ap (λ o. unwrap_or o y) at) h.0
+by_place P (y ∷ ys) (suc i) x h at = by_place P ys i x h.1 at
+
+pub served_readable : (accounts : List Open) (place : ℕ) (op : AnyOp) → slice_get (served accounts) place ≡ Some op → IsUnreadable sequenced_values op → ⊥
+unfolding served
+served_readable accounts place op at = by_place (λ op. IsUnreadable sequenced_values op → ⊥) (served accounts) place op ((λ u. no_update None 0 u.key u.value u.is), each_readable accounts) at

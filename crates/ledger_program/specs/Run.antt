@@ -1,8 +1,9 @@
 -- The words of the program, and what it answers.
-use Rattle.std.specs.Prelude.{◌≡◌, ◌≤◌, ℕ, Bool, true, false, List, [], ◌∷◌, ◌++◌, Option, Some, None, Ok, Err, length, codes, take, IfSome, ⊤}
+use Rattle.std.specs.Prelude.{◌≡◌, ◌≤◌, ℕ, Bool, true, false, List, [], ◌∷◌, ◌++◌, Option, Some, None, Ok, Err, length, codes, take, IfSome, ◌⊎◌, ⊤}
 use Rattle.std.specs.Str.{bytes_eq}
 use Rattle.std.specs.Io.KnownBytes.{Appends}
 use Rattle.ledger_job.specs.Jobs.{job_of}
+use Rattle.ledger_job.specs.declared.block.BlockVerdicts.{BlockVerdicts}
 use Rattle.ledger_job.specs.declared.job.Job.{Job}
 use Rattle.ledger_job.specs.declared.payment.Payment.{Payment}
 use Rattle.ledger_job.specs.Payments.{payment_changes}
@@ -21,7 +22,7 @@ use Rattle.ledger_program.specs.declared.fault.Fault.{Fault}
 use Rattle.ledger_program.specs.declared.fault.Fault.TheVariants.{Network, RequestChannelClosed, InvalidResponse, UnexpectedResponse, Server, InvalidProof, TooManyStrays, WrongRoot, BadLog, BadValue, Rejected, Full, OutOfMemory as FollowMemory}
 use Rattle.ledger_program.specs.declared.outcome.RunFault.{RunFault}
 use Rattle.ledger_program.specs.declared.outcome.RunFault.TheVariants.{Usage, BadJob, JobRead, JobTooLarge, Dial, Follow, Output, OutOfMemory}
-use Rattle.ledger_settling.specs.Blocks.{Meaning, meaning}
+use Rattle.ledger_settling.specs.Blocks.{Meaning, meaning, RunsTo}
 use Rattle.ledger_settling.specs.Faults.{RunFails}
 use Rattle.ledger_settling.specs.Reports.{ReportOf, Spans}
 use Rattle.ledger_settling.specs.declared.fault.ReportFault.{ReportFault}
@@ -87,6 +88,19 @@ pub record Unfollowed (text : List ℕ) (fault : Fault) : Type 0 where
   pub is_job : IsJob text job
   pub fails : FailsJob job fault
 
+-- the text is a job whose blocks settle, one after another, on the log that it serves
+pub record IsSettling (text : List ℕ) : Type 0 where
+  pub job : Job
+  pub is_job : IsJob text job
+  pub verdicts : List BlockVerdicts
+  pub all : List AnyOp
+  pub runs : RunsTo payments (served job.opens) job.blocks verdicts all
+
+-- where the words are a form, the blocks of the job settle and no count rose, only want of memory keeps the status from being 0
+abbrev pub Completes : Bool → Option (List ℕ) → ℕ → ℕ → ℕ → ℕ → ℕ → Type 0
+Completes form left read_before read_now wrote_before wrote_now status =
+    form ≡ true → IfSome left (λ text. IsSettling text → (Rose read_before read_now → ⊥) → (Rose wrote_before wrote_now → ⊥) → (status ≡ 0) ⊎ (status ≡ 11))
+
 -- the target of a whole log that begins at 0
 pub record SpansLog (target : Target) (log : LogView AnyOp) : Type 0 where
   pub start : target.start ≡ 0
@@ -98,10 +112,11 @@ abbrev pub run_fault_of : ReportFault → RunFault
 run_fault_of NoMemory = OutOfMemory
 run_fault_of cause = Follow (fault_of cause)
 
--- why a job has no report over the log that it serves
+-- why a job has no report over the log that it serves, which is a log of accounts: a block has none
 abbrev pub LocalFails : Job → RunFault → Type 0
-LocalFails job (Follow FollowMemory) = ⊥
-LocalFails job (Follow fault) = FailsJob job fault
+LocalFails job (Follow (Rejected block rejection)) = FailsJob job (Rejected block rejection)
+LocalFails job (Follow (Full block)) = FailsJob job (Full block)
+LocalFails job (Follow fault) = ⊥
 LocalFails job OutOfMemory = ⊤
 LocalFails job fault = ⊥
 
@@ -120,8 +135,9 @@ Attempted form left before now (BadJob line) = (form ≡ true) × IfSome left (�
 Attempted form left before now JobRead = (form ≡ true) × Rose before now
 Attempted form left before now JobTooLarge = (form ≡ true) × HeldMore max_job left
 Attempted form left before now Dial = ⊥
-Attempted form left before now (Follow FollowMemory) = ⊥
-Attempted form left before now (Follow fault) = (form ≡ true) × IfSome left (λ text. Unfollowed text fault)
+Attempted form left before now (Follow (Rejected block rejection)) = (form ≡ true) × IfSome left (λ text. Unfollowed text (Rejected block rejection))
+Attempted form left before now (Follow (Full block)) = (form ≡ true) × IfSome left (λ text. Unfollowed text (Full block))
+Attempted form left before now (Follow fault) = ⊥
 Attempted form left before now Output = ⊥
 Attempted form left before now OutOfMemory = form ≡ true
 
@@ -210,7 +226,8 @@ Caused form left read_before read_now wrote_before wrote_now (BadJob line) = (fo
 Caused form left read_before read_now wrote_before wrote_now JobRead = (form ≡ true) × Rose read_before read_now
 Caused form left read_before read_now wrote_before wrote_now JobTooLarge = (form ≡ true) × HeldMore max_job left
 Caused form left read_before read_now wrote_before wrote_now Dial = ⊥
-Caused form left read_before read_now wrote_before wrote_now (Follow FollowMemory) = ⊥
-Caused form left read_before read_now wrote_before wrote_now (Follow fault) = (form ≡ true) × IfSome left (λ text. Unfollowed text fault)
+Caused form left read_before read_now wrote_before wrote_now (Follow (Rejected block rejection)) = (form ≡ true) × IfSome left (λ text. Unfollowed text (Rejected block rejection))
+Caused form left read_before read_now wrote_before wrote_now (Follow (Full block)) = (form ≡ true) × IfSome left (λ text. Unfollowed text (Full block))
+Caused form left read_before read_now wrote_before wrote_now (Follow fault) = ⊥
 Caused form left read_before read_now wrote_before wrote_now Output = (form ≡ true) × Rose wrote_before wrote_now
 Caused form left read_before read_now wrote_before wrote_now OutOfMemory = form ≡ true

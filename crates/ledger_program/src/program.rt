@@ -3,7 +3,7 @@ ghost use Rattle.std.specs.Prelude.{◌≡◌, ◌≤◌, ◌==◌, ◌⊎◌, O
 ghost use Rattle.std.specs.Io.KnownBytes.{IsAtEnd};
 ghost use Rattle.ledger_codec.specs.Causes.{Rose};
 ghost use Rattle.ledger_program.specs.ErrorLines.{line_of};
-ghost use Rattle.ledger_program.specs.Run.{is_form, status_of, IsJob, ReadFails, Attempted, Followed, Wrote, WriteFails, IsEarly, IsLate, Caused, has_report, is_read};
+ghost use Rattle.ledger_program.specs.Run.{is_form, status_of, IsJob, ReadFails, Attempted, Followed, Wrote, WriteFails, IsEarly, IsLate, Caused, Completes, has_report, is_read};
 ghost use Rattle.ledger_program.specs.Writing.{AppendsFront};
 ghost use Rattle.ledger_program.specs.declared.outcome.RunFault.TheVariants.{Output};
 
@@ -157,6 +157,30 @@ fn printed<K: Sink>(alloc: Global, report: Report<Sequenced>, out: &mut K) -> Ou
 
 /// Does what the words say, over the job that is read, and prints the report, or the line that says why
 /// there is none.
+fn act<R: RandomSource + Threads + Sync, S: Source, K: Sink>(
+    rt: &R,
+    alloc: Global,
+    words: &[String],
+    job: &mut S,
+    out: &mut K,
+) -> Outcome
+    ensures status { result.status ≡ status_of result.fault }
+    ensures followed { IfSome result.report (λ report. IfSome (S.left job.old) (λ text. Followed text report)) }
+    ensures reported { has_report result.fault ≡ true → IsSome result.report }
+    ensures unreported { IfSome result.fault (λ fault. IsEarly fault → (result.status ≡ 11) ⊎ (result.report ≡ None)) }
+    ensures usage { (result.status == 2) ≡ not (is_form (map string_bytes words.now)) }
+    ensures caused { IfSome result.fault (Caused (is_form (map string_bytes words.now)) (S.left job.old) (S.faults job.old) (S.faults job.new) (K.faults out.old) (K.faults out.new)) }
+    ensures read { is_read result.fault ≡ true → IsAtEnd (S.left job.new) }
+    ensures wrote { Wrote (K.written out.old) (K.written out.new) result.report result.fault }
+{
+    match attempt(rt, alloc, words, job) {
+        Ok(report) => printed(alloc, report, out),
+        Err(fault) => refused(alloc, fault, out),
+    }
+}
+
+/// Does what the words say, over the job that is read, and prints the report, or the line that says why
+/// there is none. The dialer isn't called with `local`.
 pub fn run<R: RandomSource + Threads + Sync, S: Source, D: Dialer, K: Sink>(
     rt: &R,
     alloc: Global,
@@ -167,6 +191,7 @@ pub fn run<R: RandomSource + Threads + Sync, S: Source, D: Dialer, K: Sink>(
 ) -> Outcome
     ensures status { result.status ≡ status_of result.fault }
     ensures usage { (result.status == 2) ≡ not (is_form (map string_bytes words.now)) }
+    ensures complete { Completes (is_form (map string_bytes words.now)) (S.left job.old) (S.faults job.old) (S.faults job.new) (K.faults out.old) (K.faults out.new) result.status }
     ensures followed { IfSome result.report (λ report. IfSome (S.left job.old) (λ text. Followed text report)) }
     ensures reported { has_report result.fault ≡ true → IsSome result.report }
     ensures unreported { IfSome result.fault (λ fault. IsEarly fault → (result.status ≡ 11) ⊎ (result.report ≡ None)) }
@@ -174,8 +199,5 @@ pub fn run<R: RandomSource + Threads + Sync, S: Source, D: Dialer, K: Sink>(
     ensures read { is_read result.fault ≡ true → IsAtEnd (S.left job.new) }
     ensures wrote { Wrote (K.written out.old) (K.written out.new) result.report result.fault }
 {
-    match attempt(rt, alloc, words, job) {
-        Ok(report) => printed(alloc, report, out),
-        Err(fault) => refused(alloc, fault, out),
-    }
+    act(rt, alloc, words, job, out)
 }

@@ -6,3 +6,4 @@ pub mod AppendLemmas
 pub mod ChoiceLemmas
 pub mod OpenLemmas
 pub mod RoundLemmas
+pub mod CauseLemmas
