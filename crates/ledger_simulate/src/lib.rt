@@ -26,6 +26,8 @@ mod result;
 mod run;
 mod simulation;
 mod spelling;
+#[cfg(test)]
+mod tests;
 mod watch;
 mod world;
 
