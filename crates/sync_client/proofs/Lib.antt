@@ -12,3 +12,9 @@ pub mod Shortness
 pub mod Sameness
 pub mod Turning
 pub mod Closing
+pub mod ProofDigests
+pub mod ServedAnswers
+pub mod ServingSteps
+pub mod ServingTakes
+pub mod ServingTurns
+pub mod ServingEnds

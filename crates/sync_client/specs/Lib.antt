@@ -10,3 +10,5 @@ pub mod Steps
 pub mod Ending
 pub mod Counts
 pub mod Turns
+pub mod Serving
+pub mod Owing

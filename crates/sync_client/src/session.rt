@@ -9,6 +9,10 @@ ghost use Rattle.sync_client.specs.Runs.{SessionLaws};
 ghost use Rattle.sync_client.specs.Session.{Nothing, ask_next, is_whole, rules_for, started};
 ghost use Rattle.sync_client.specs.Tiles.{Tiles};
 ghost use Rattle.sync_client.specs.Turns.{Filled, Handled, Receives, Collects};
+ghost use Rattle.ledger_log.specs.declared.target.Target.{Target};
+ghost use Rattle.sync_net.specs.Core.{LogData};
+ghost use Rattle.sync_client.specs.Serving.{Serves};
+ghost use Rattle.sync_client.specs.Owing.{AreSent, IsServed, Serving, ServesOn, Gives, Begins, Fetches};
 
 use crate::collector::Collector;
 use crate::fault::{CollectFault, SyncFault};
@@ -40,6 +44,8 @@ fn fill<Op: Leaf + Spell + Copy, L: Link>(
     ensures exact { IsTrue L.exact → CountKept result (L.faults link.old) (L.faults link.new) }
     ensures steady { L.steady link.old → L.steady link.new × NeverNetwork result (L.faults link.old) (L.faults link.new) }
     ensures filled { (o : Origin Op) (strays : ℕ) → o.rules ≡ rules_for Op.reading Op.written Op.spelling target.now → Came o (seen machine.old collector.old strays) machine.old.held machine.old.closed (L.wire link.old) (L.faults link.old) → Filled result o (seen machine.new collector.new strays) machine.new (L.wire link.new) (L.faults link.new) }
+    ensures nothing { OnOk result ((strays : ℕ) → ask_next (seen machine.new collector.new strays) ≡ Nothing) }
+    ensures serving { (held : LogData) → AreSent Op.reading Op.written Op.spelling Op.Spell.sound → (h : Serves Op.written Op.Spell.sound held target.now) → (strays : ℕ) → IsServed Op.written held h.log (seen machine.old collector.old strays) machine.old.held machine.old.closed (L.service link.old) → Serving Op.written held h.log (seen machine.new collector.new strays) result machine.new.held machine.new.closed (L.service link.new) }
 {
     loop {
         let frame = match ask(target, machine, collector) {
@@ -66,6 +72,7 @@ fn receive<Op: Spell, L: Link>(
     ensures exact { IsTrue L.exact → CountKept result (L.faults link.old) (L.faults link.new) }
     ensures steady { L.steady link.old → L.steady link.new × NeverNetwork result (L.faults link.old) (L.faults link.new) }
     ensures receives { Receives result machine.old machine.new (L.wire link.old) (L.wire link.new) (L.faults link.old) (L.faults link.new) }
+    ensures gives { Gives result machine.old machine.new (L.service link.old) (L.service link.new) }
 {
     match link.recv(buffer) {
         Ok(0) => {
@@ -102,6 +109,7 @@ fn handle<Op: Leaf + Spell + Copy, L: Link>(
     ensures exact { IsTrue L.exact → CountKept result (L.faults link.old) (L.faults link.new) }
     ensures steady { L.steady link.old → L.steady link.new × NeverNetwork result (L.faults link.old) (L.faults link.new) }
     ensures handled { (o : Origin Op) → o.rules ≡ rules_for Op.reading Op.written Op.spelling collector.old.plan.target → Came o (seen machine.old collector.old strays.old) machine.old.held machine.old.closed (L.wire link.old) (L.faults link.old) → ask_next (seen machine.old collector.old strays.old) ≡ Nothing → is_whole (seen machine.old collector.old strays.old) ≡ false → Handled result o (seen machine.new collector.new strays.new) machine.new (L.wire link.new) (L.faults link.new) }
+    ensures serving { (held : LogData) → AreSent Op.reading Op.written Op.spelling Op.Spell.sound → (target : Target) → collector.old.plan.target ≡ target → (h : Serves Op.written Op.Spell.sound held target) → IsServed Op.written held h.log (seen machine.old collector.old strays.old) machine.old.held machine.old.closed (L.service link.old) → ask_next (seen machine.old collector.old strays.old) ≡ Nothing → is_whole (seen machine.old collector.old strays.old) ≡ false → Serving Op.written held h.log (seen machine.new collector.new strays.new) result machine.new.held machine.new.closed (L.service link.new) }
 {
     loop {
         match take_next(machine, collector, strays) {
@@ -133,6 +141,7 @@ fn collect<Op: Leaf + Spell + Copy, L: Link>(
     ensures exact { IsTrue L.exact → CountKept result (L.faults link.old) (L.faults link.new) }
     ensures steady { L.steady link.old → L.steady link.new × NeverNetwork result (L.faults link.old) (L.faults link.new) }
     ensures collects { (o : Origin Op) → o.rules ≡ rules_for Op.reading Op.written Op.spelling target.now → Came o (seen machine.old collector.old 0) machine.old.held machine.old.closed (L.wire link.old) (L.faults link.old) → Collects result o machine.new collector.new (L.wire link.new) (L.faults link.new) }
+    ensures serving { (held : LogData) → AreSent Op.reading Op.written Op.spelling Op.Spell.sound → (h : Serves Op.written Op.Spell.sound held target.now) → IsServed Op.written held h.log (seen machine.old collector.old 0) machine.old.held machine.old.closed (L.service link.old) → ServesOn Op.written held h.log result machine.new collector.new (L.service link.new) }
 {
     let mut buffer = [0; BUFFER_SIZE];
     let mut strays = 0;
@@ -170,7 +179,10 @@ pub fn sync_full<Op: Leaf + Spell + Copy, L: Link>(
     ensures steady { L.steady link.old → L.steady link.new × NeverNetwork result (L.faults link.old) (L.faults link.new) }
     ensures part { IfOk result (λ part. IsPartOf Op.spelling target.now part) }
     ensures laws { SessionLaws (rules_for Op.reading Op.written Op.spelling target.now) (started (record { target = target.now; limits = limits.now }) machine.old.next) }
+    ensures serving { (held : LogData) → AreSent Op.reading Op.written Op.spelling Op.Spell.sound → (h : Serves Op.written Op.Spell.sound held target.now) → Begins held machine.old (L.service link.old) → Fetches Op.written held h.log target.now result machine.new (L.service link.new) }
 {
+    let _batch = limits.batch();
+    let _outstanding = limits.outstanding();
     let mut collector = Collector::new(alloc, *target, *limits);
     match collect(target, machine, &mut collector, link) {
         Ok(()) => {}

@@ -20,7 +20,29 @@ loop-buffer-init g c =
       exact = λ e. c.in-Ok.ensures.exact e;
       steady = λ e. c.in-Ok.ensures.steady e;
       came = λ o r k. c.in-Ok.ensures.filled o 0 r k;
+      nothing = c.in-Ok.ensures.nothing;
+      serving = λ held sent h k. c.in-Ok.ensures.serving held sent h 0 k;
     }
+
+pub returns-in-Err-clause-serving : goal.returns-in-Err-clause-serving
+returns-in-Err-clause-serving g c held sent h k = c.in-Err.ensures.serving held sent h 0 k
+
+pub returns-in-Err-handle-clause-serving : goal.returns-in-Err-handle-clause-serving
+returns-in-Err-handle-clause-serving g c held sent h k =
+    let i = c.loop-buffer.invariant in
+    let aimed : c.loop-buffer.collector.plan.target ≡ c.args.target.now = ap (λ (p : Plan). p.target) i.plan ∙ c.requires.target in
+    let more : is_whole (seen c.loop-buffer.machine c.loop-buffer.collector c.loop-buffer.strays) ≡ false = whole_seen c.loop-buffer.machine c.loop-buffer.collector c.loop-buffer.strays ∙ (sym c.is_complete.ensures.value ∙ c.loop-buffer-test.true) in
+    c.in-Err-handle.ensures.serving held sent c.args.target.now aimed h (i.serving held sent h k) (i.nothing c.loop-buffer.strays) more
+
+pub returns-in-Err-fill-clause-serving : goal.returns-in-Err-fill-clause-serving
+returns-in-Err-fill-clause-serving g c held sent h k =
+    let i = c.loop-buffer.invariant in
+    let aimed : c.loop-buffer.collector.plan.target ≡ c.args.target.now = ap (λ (p : Plan). p.target) i.plan ∙ c.requires.target in
+    let more : is_whole (seen c.loop-buffer.machine c.loop-buffer.collector c.loop-buffer.strays) ≡ false = whole_seen c.loop-buffer.machine c.loop-buffer.collector c.loop-buffer.strays ∙ (sym c.is_complete.ensures.value ∙ c.loop-buffer-test.true) in
+    c.in-Err-fill.ensures.serving held sent h c.handle.new.strays (c.in-Ok-handle.ensures.serving held sent c.args.target.now aimed h (i.serving held sent h k) (i.nothing c.loop-buffer.strays) more)
+
+pub returns-clause-serving : goal.returns-clause-serving
+returns-clause-serving g c held sent h k = (c.loop-buffer.strays, c.loop-buffer.invariant.serving held sent h k)
 
 pub returns-in-Err-handle-clause-collects : goal.returns-in-Err-handle-clause-collects
 returns-in-Err-handle-clause-collects g c o r k =
@@ -50,6 +72,11 @@ loop-buffer-preserved g c =
           let k2 = i.came o r k in
           let more : is_whole (seen c.loop-buffer.machine c.loop-buffer.collector c.loop-buffer.strays) ≡ false = whole_seen c.loop-buffer.machine c.loop-buffer.collector c.loop-buffer.strays ∙ (sym c.is_complete.ensures.value ∙ c.loop-buffer-test.true) in
           c.in-Ok-fill.ensures.filled o c.handle.new.strays r (c.in-Ok-handle.ensures.handled o r2 k2.0 k2.1 more);
+      nothing = c.in-Ok-fill.ensures.nothing;
+      serving = λ held sent h k.
+          let aimed : c.loop-buffer.collector.plan.target ≡ c.args.target.now = ap (λ (p : Plan). p.target) i.plan ∙ c.requires.target in
+          let more : is_whole (seen c.loop-buffer.machine c.loop-buffer.collector c.loop-buffer.strays) ≡ false = whole_seen c.loop-buffer.machine c.loop-buffer.collector c.loop-buffer.strays ∙ (sym c.is_complete.ensures.value ∙ c.loop-buffer-test.true) in
+          c.in-Ok-fill.ensures.serving held sent h c.handle.new.strays (c.in-Ok-handle.ensures.serving held sent c.args.target.now aimed h (i.serving held sent h k) (i.nothing c.loop-buffer.strays) more);
     }
 
 pub returns-in-Err-fill-clause-collects : goal.returns-in-Err-fill-clause-collects

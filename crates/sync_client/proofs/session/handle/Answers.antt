@@ -1,4 +1,4 @@
-use Rattle.std.proofs.Common.{◌≡◌, ◌∙◌, ◌<◌, ◌≤◌, ◌+◌, ◌++◌, ap, sym, subst, refl, ℕ, List, length, false, arith, length-append}
+use Rattle.std.proofs.Common.{◌≡◌, ◌∙◌, ◌<◌, ◌≤◌, ◌+◌, ◌++◌, ap, sym, subst, refl, ℕ, List, length, map, true, false, Ok, Err, arith, length-append}
 use Rattle.ledger_codec.specs.Frames.{Short, front}
 use Rattle.sync_net.specs.View.{MachineView}
 use Rattle.sync_client.specs.Collected.{Collected}
@@ -6,6 +6,11 @@ use Rattle.sync_client.specs.Ending.{Came, handled}
 use Rattle.sync_client.specs.Seen.{seen}
 use Rattle.sync_client.specs.Session.{State, Rules, ask_next, is_whole, rules_for}
 use Rattle.sync_client.specs.Tiles.{Tiles}
+use Rattle.ledger_log.specs.declared.target.Target.{Target}
+use Rattle.sync_client.specs.Seen.{ask_of}
+use Rattle.sync_client.specs.Steps.{TakesNext}
+use Rattle.sync_client.specs.Owing.{Midway}
+use Rattle.sync_client.proofs.ServingTurns.{first_midway, some_pending, bytes_came, took_served, take_may_stop, bytes_may_stop, recv_faults}
 use Rattle.sync_client.proofs.Rising.{rises, taking_keeps}
 use Rattle.sync_client.proofs.Shortness.{short_held}
 use Rattle.sync_client.proofs.Turning.{kept_most, take_stops, took, recv_stops, recv_came, same_seen}
@@ -13,7 +18,7 @@ use Rattle.sync_client.proofs.session.handle.Goals as goal
 
 pub loop-fault-init : goal.loop-fault-init
 loop-fault-init g c =
-    record { room = c.requires.room; collector = refl; strays = refl; machine = (c.args.machine.now.held, refl); exact = λ e. refl; steady = λ s. (s, refl); came = λ o r k. k }
+    record { room = c.requires.room; collector = refl; strays = refl; machine = (c.args.machine.now.held, refl); exact = λ e. refl; steady = λ s. (s, refl); came = λ o r k. k; serving = λ held sent target same w k nothing more. first_midway g.Op.Spell.written held target w.log c.args.machine.now c.args.collector.now c.args.strays.now (g.L.Link.service c.args.link.now) same k }
 
 pub returns-in-Ok-true-clause-rises : goal.returns-in-Ok-true-clause-rises
 returns-in-Ok-true-clause-rises g c =
@@ -79,7 +84,43 @@ loop-fault-preserved g c =
       came = λ o r k.
           let before = subst (λ (v : MachineView). Came o (seen c.args.machine.now c.args.collector.now c.args.strays.now) v.held v.closed (g.L.Link.wire c.loop-fault.link) (g.L.Link.faults c.loop-fault.link)) (sym t.2) (i.came o r k) in
           recv_came o (seen c.args.machine.now c.args.collector.now c.args.strays.now) c.take_next.new.machine c.receive.new.machine c.in-Ok.field-0 (g.L.Link.wire c.loop-fault.link) (g.L.Link.wire c.receive.new.link) (g.L.Link.faults c.loop-fault.link) (g.L.Link.faults c.receive.new.link) h live before;
+      serving = λ held sent target same w k nothing more.
+          let some = some_pending c.args.machine.now c.args.collector.now c.args.strays.now c.requires.tiles c.requires.paired k.follows.many nothing more in
+          let mid = subst (λ (v : MachineView). Midway held target (map ask_of c.args.machine.now.pending) (g.L.Link.service c.loop-fault.link) v.held) (sym t.2) (i.serving held sent target same w k nothing more) in
+          let short : front 10485760 c.take_next.new.machine.held ≡ Short = ap (λ (v : MachineView). front 10485760 v.held) t.2 ∙ t.0 in
+          bytes_came g.Op.Spell.reading g.Op.Spell.written g.Op.Leaf.spelling g.Op.Spell.sound sent held target w (seen c.args.machine.now c.args.collector.now c.args.strays.now) c.take_next.new.machine c.receive.new.machine (g.L.Link.service c.loop-fault.link) (g.L.Link.service c.receive.new.link) c.in-Ok.field-0
+          same k.follows some mid short c.in-Ok.ensures.gives;
     }
+
+pub returns-in-Ok-true-clause-serving : goal.returns-in-Ok-true-clause-serving
+returns-in-Ok-true-clause-serving g c held sent target same w k nothing more =
+    let i = c.loop-fault.invariant in
+    let h = rw c.in-Ok-true.field-0-test at c.in-Ok-true.ensures.takes in
+    let is = same_seen c.loop-fault.machine c.args.machine.now c.loop-fault.collector c.args.collector.now c.loop-fault.strays c.args.strays.now i.machine.0 i.machine.1 i.collector i.strays in
+    let aimed : c.loop-fault.collector.plan.target ≡ target = ap (λ (v : Collected g.row.Op.Denot). v.plan.target) i.collector ∙ same in
+    let t = subst (λ (x : Target). TakesNext (Ok true) (rules_for g.Op.Spell.reading g.Op.Spell.written g.Op.Leaf.spelling x) c.loop-fault.machine c.take_next.new.machine c.loop-fault.collector c.take_next.new.collector c.loop-fault.strays c.take_next.new.strays) aimed h in
+    took_served g.Op.Spell.reading g.Op.Spell.written g.Op.Leaf.spelling g.Op.Spell.sound sent held target w (seen c.args.machine.now c.args.collector.now c.args.strays.now) c.loop-fault.machine c.take_next.new.machine c.loop-fault.collector c.take_next.new.collector c.loop-fault.strays c.take_next.new.strays (g.L.Link.service c.loop-fault.link)
+    is same k.follows (i.serving held sent target same w k nothing more) t
+
+pub returns-in-Err-clause-serving : goal.returns-in-Err-clause-serving
+returns-in-Err-clause-serving g c held sent target same w k nothing more =
+    let i = c.loop-fault.invariant in
+    let is = same_seen c.loop-fault.machine c.args.machine.now c.loop-fault.collector c.args.collector.now c.loop-fault.strays c.args.strays.now i.machine.0 i.machine.1 i.collector i.strays in
+    let aimed : c.loop-fault.collector.plan.target ≡ target = ap (λ (v : Collected g.row.Op.Denot). v.plan.target) i.collector ∙ same in
+    let live : c.loop-fault.machine.closed ≡ false = ap (λ (v : MachineView). v.closed) i.machine.1 ∙ k.live in
+    let t = subst (λ (x : Target). TakesNext (Err c.in-Err.fault) (rules_for g.Op.Spell.reading g.Op.Spell.written g.Op.Leaf.spelling x) c.loop-fault.machine c.take_next.new.machine c.loop-fault.collector c.take_next.new.collector c.loop-fault.strays c.take_next.new.strays) aimed c.in-Err.ensures.takes in
+    take_may_stop g.Op.Spell.reading g.Op.Spell.written g.Op.Leaf.spelling g.Op.Spell.sound sent held target w (seen c.args.machine.now c.args.collector.now c.args.strays.now) c.loop-fault.machine c.take_next.new.machine c.loop-fault.collector c.take_next.new.collector c.loop-fault.strays c.take_next.new.strays (g.L.Link.service c.loop-fault.link) c.in-Err.fault
+    is same k.follows (i.serving held sent target same w k nothing more) live t
+
+pub returns-in-Err-receive-clause-serving : goal.returns-in-Err-receive-clause-serving
+returns-in-Err-receive-clause-serving g c held sent target same w k nothing more =
+    let i = c.loop-fault.invariant in
+    let t = rw c.in-Ok-false.field-0-test at c.in-Ok-false.ensures.takes in
+    let some = some_pending c.args.machine.now c.args.collector.now c.args.strays.now c.requires.tiles c.requires.paired k.follows.many nothing more in
+    let mid = subst (λ (v : MachineView). Midway held target (map ask_of c.args.machine.now.pending) (g.L.Link.service c.loop-fault.link) v.held) (sym t.2) (i.serving held sent target same w k nothing more) in
+    let short : front 10485760 c.take_next.new.machine.held ≡ Short = ap (λ (v : MachineView). front 10485760 v.held) t.2 ∙ t.0 in
+    bytes_may_stop g.Op.Spell.reading g.Op.Spell.written g.Op.Leaf.spelling g.Op.Spell.sound sent held target w (seen c.args.machine.now c.args.collector.now c.args.strays.now) c.take_next.new.machine c.receive.new.machine (g.L.Link.service c.loop-fault.link) (g.L.Link.service c.receive.new.link) c.in-Err-receive.fault
+    same k.follows some mid short c.in-Err-receive.ensures.gives (recv_faults c.take_next.new.machine c.receive.new.machine c.in-Err-receive.fault (g.L.Link.wire c.loop-fault.link) (g.L.Link.wire c.receive.new.link) (g.L.Link.faults c.loop-fault.link) (g.L.Link.faults c.receive.new.link) c.in-Err-receive.ensures.receives)
 
 pub returns-in-Err-receive-clause-handled : goal.returns-in-Err-receive-clause-handled
 returns-in-Err-receive-clause-handled g c o r k nothing more =

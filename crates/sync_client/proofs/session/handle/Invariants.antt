@@ -1,7 +1,11 @@
-use Rattle.std.proofs.Common.{◌≡◌, ◌-◌, ◌<◌, ℕ, List, length, IsTrue}
+use Rattle.std.proofs.Common.{◌≡◌, ◌-◌, ◌<◌, ℕ, List, length, map, false, IsTrue}
+use Rattle.ledger_log.specs.declared.target.Target.{Target}
+use Rattle.sync_net.specs.Core.{LogData}
+use Rattle.sync_client.specs.Serving.{Serves}
+use Rattle.sync_client.specs.Owing.{AreSent, IsServed, Midway}
 use Rattle.sync_client.specs.Ending.{Origin, Came}
-use Rattle.sync_client.specs.Seen.{seen}
-use Rattle.sync_client.specs.Session.{rules_for}
+use Rattle.sync_client.specs.Seen.{seen, ask_of}
+use Rattle.sync_client.specs.Session.{Nothing, ask_next, is_whole, rules_for}
 use Rattle.sync_client.proofs.session.handle.Given as goal
 
 abbrev pub invariant-loop-fault : goal.invariant-loop-fault
@@ -14,6 +18,7 @@ invariant-loop-fault g l =
       exact : IsTrue g.L.Link.exact → g.L.Link.faults l.link ≡ g.L.Link.faults l.fn.link;
       steady : g.L.Link.steady l.fn.link → g.L.Link.steady l.link × (g.L.Link.faults l.link ≡ g.L.Link.faults l.fn.link);
       came : (o : Origin g.row.Op.Denot) → o.rules ≡ rules_for g.Op.Spell.reading g.Op.Spell.written g.Op.Leaf.spelling l.fn.collector.plan.target → Came o (seen l.fn.machine l.fn.collector l.fn.strays) l.fn.machine.held l.fn.machine.closed (g.L.Link.wire l.fn.link) (g.L.Link.faults l.fn.link) → Came o (seen l.fn.machine l.fn.collector l.fn.strays) l.machine.held l.machine.closed (g.L.Link.wire l.link) (g.L.Link.faults l.link);
+      serving : (held : LogData) → AreSent g.Op.Spell.reading g.Op.Spell.written g.Op.Leaf.spelling g.Op.Spell.sound → (target : Target) → l.fn.collector.plan.target ≡ target → (h : Serves g.Op.Spell.written g.Op.Spell.sound held target) → IsServed g.Op.Spell.written held h.log (seen l.fn.machine l.fn.collector l.fn.strays) l.fn.machine.held l.fn.machine.closed (g.L.Link.service l.fn.link) → ask_next (seen l.fn.machine l.fn.collector l.fn.strays) ≡ Nothing → is_whole (seen l.fn.machine l.fn.collector l.fn.strays) ≡ false → Midway held target (map ask_of l.fn.machine.pending) (g.L.Link.service l.link) l.machine.held;
     }
 
 abbrev pub decreases-loop-fault : goal.decreases-loop-fault

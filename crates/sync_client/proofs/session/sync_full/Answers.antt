@@ -1,8 +1,17 @@
 use Rattle.std.proofs.Common.{refl}
 use Rattle.sync_client.specs.Ending.{Origin, origin_of}
+use Rattle.std.proofs.Common.{◌≡◌, ◌<◌, ℕ, arith, ◌∙◌, ap}
+use Rattle.ledger_log.specs.declared.target.Target.{Target}
+use Rattle.sync_client.specs.Asking.{Plan}
+use Rattle.sync_client.specs.Collected.{Collected}
+use Rattle.sync_client.proofs.ServingEnds.{began_served, logs_part, never_wrong}
 use Rattle.sync_client.proofs.Closing.{began, finished_so, wrong_so}
 use Rattle.sync_client.proofs.Sameness.{session_laws}
 use Rattle.sync_client.proofs.session.sync_full.Goals as goal
+
+-- a number is that one, and above 0
+positive : (n m : ℕ) → n ≡ m → 0 < n → 0 < m
+positive n m e h = omega (arith, e, h)
 
 pub returns-in-Err-clause-ended : goal.returns-in-Err-clause-ended
 returns-in-Err-clause-ended g c =
@@ -35,3 +44,20 @@ returns-in-Err-WrongRoot-clause-laws g c = session_laws _ _
 
 pub returns-in-Err-OutOfMemory-clause-laws : goal.returns-in-Err-OutOfMemory-clause-laws
 returns-in-Err-OutOfMemory-clause-laws g c = session_laws _ _
+
+pub returns-in-Err-clause-serving : goal.returns-in-Err-clause-serving
+returns-in-Err-clause-serving g c held sent h b =
+    c.in-Err.ensures.serving held sent h (began_served g.Op.Spell.written held h.log c.args.target.now c.args.limits.now c.args.machine.now c.new-collector.result (g.L.Link.service c.args.link.now) c.requires c.new-collector.ensures.value (positive _ _ c.batch-batch.ensures.same c.batch-batch.ensures.some) (positive _ _ c.outstanding-outstanding.ensures.same c.outstanding-outstanding.ensures.some) b)
+
+pub returns-in-Ok-finish-clause-serving : goal.returns-in-Ok-finish-clause-serving
+returns-in-Ok-finish-clause-serving g c held sent h b =
+    let w = c.in-Ok.ensures.serving held sent h (began_served g.Op.Spell.written held h.log c.args.target.now c.args.limits.now c.args.machine.now c.new-collector.result (g.L.Link.service c.args.link.now) c.requires c.new-collector.ensures.value (positive _ _ c.batch-batch.ensures.same c.batch-batch.ensures.some) (positive _ _ c.outstanding-outstanding.ensures.same c.outstanding-outstanding.ensures.some) b) in
+    logs_part g.Op.Spell.written g.Op.Leaf.spelling g.Op.Spell.sound sent.same held c.args.target.now h c.args.limits.now c.collect.new.machine c.collect.new.collector (g.L.Link.service c.collect.new.link)
+    (c.collect.ensures.plan ∙ ap (λ (v : Collected g.row.Op.Denot). v.plan) c.new-collector.ensures.value) c.collect.ensures.tiles c.in-Ok.ensures.complete c.in-Ok.ensures.paired w.0 w.1 c.in-Ok-finish.part c.in-Ok-finish.ensures.finishes c.in-Ok-finish.ensures.one
+
+pub returns-in-Err-WrongRoot-clause-serving : goal.returns-in-Err-WrongRoot-clause-serving
+returns-in-Err-WrongRoot-clause-serving g c held sent h b =
+    let w = c.in-Ok.ensures.serving held sent h (began_served g.Op.Spell.written held h.log c.args.target.now c.args.limits.now c.args.machine.now c.new-collector.result (g.L.Link.service c.args.link.now) c.requires c.new-collector.ensures.value (positive _ _ c.batch-batch.ensures.same c.batch-batch.ensures.some) (positive _ _ c.outstanding-outstanding.ensures.same c.outstanding-outstanding.ensures.some) b) in
+    let f = rw c.in-Err-WrongRoot.field-0-is at c.in-Err-WrongRoot.ensures.finishes in
+    absurd (never_wrong g.Op.Spell.written g.Op.Leaf.spelling g.Op.Spell.sound sent.same held c.args.target.now h c.args.limits.now c.collect.new.machine c.collect.new.collector (g.L.Link.service c.collect.new.link)
+    (c.collect.ensures.plan ∙ ap (λ (v : Collected g.row.Op.Denot). v.plan) c.new-collector.ensures.value) c.collect.ensures.tiles c.in-Ok.ensures.complete c.in-Ok.ensures.paired w.0 w.1 c.in-Err-WrongRoot.found f)
