@@ -5,6 +5,7 @@ pub mod Chains
 pub mod Unique
 pub mod Places
 pub mod Sending
+pub mod Numbering
 pub mod Bridge
 pub mod Rising
 pub mod Stepping
