@@ -1,4 +1,5 @@
 pub mod Causes
+pub mod Sessions
 pub mod Fronts
 pub mod Names
 pub mod Lines

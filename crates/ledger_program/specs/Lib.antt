@@ -1,5 +1,6 @@
 pub mod ErrorLines
 pub mod Faults
+pub mod Follow
 pub mod Reading
 pub mod Run
 pub mod Served

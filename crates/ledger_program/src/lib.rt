@@ -13,6 +13,7 @@
 
 mod error_line;
 mod fault;
+mod following;
 mod key_text;
 mod local;
 mod outcome;
@@ -23,6 +24,7 @@ mod served;
 mod writing;
 
 pub use fault::Fault;
+pub use following::follow;
 pub use outcome::{Outcome, RunFault};
 pub use program::run;
 

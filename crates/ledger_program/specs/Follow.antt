@@ -1,0 +1,102 @@
+-- What following a log over a link gives, and why it fails.
+use Rattle.std.specs.Prelude.{◌≡◌, ℕ, ◌<◌, Bool, false, List, [], Option, Some, Result, Ok, Err, ⊤}
+use Rattle.ledger_job.specs.declared.block.Block.{Block}
+use Rattle.ledger_log.specs.Any.{any_spelling}
+use Rattle.ledger_log.specs.Spellings.{any_at}
+use Rattle.ledger_log.specs.declared.any.AnyOp.{AnyOp}
+use Rattle.ledger_log.specs.declared.target.Target.{Target}
+use Rattle.ledger_merkle.specs.declared.proof.Part.{Part as Fetched}
+use Rattle.ledger_program.specs.declared.fault.Fault.{Fault}
+use Rattle.ledger_program.specs.declared.fault.Fault.TheVariants.{Network, RequestChannelClosed, InvalidResponse, UnexpectedResponse, Server, InvalidProof, TooManyStrays, WrongRoot, BadLog, BadValue, Rejected, Full, OutOfMemory}
+use Rattle.ledger_settling.specs.Blocks.{Meaning}
+use Rattle.ledger_settling.specs.Faults.{RunFails}
+use Rattle.ledger_settling.specs.Reports.{ReportOf}
+use Rattle.ledger_settling.specs.declared.fault.ReportFault.{ReportFault}
+use Rattle.ledger_settling.specs.declared.fault.ReportFault.TheVariants as causes
+use Rattle.ledger_settling.specs.declared.report.Report.{Report}
+use Rattle.sync_client.specs.Asking.{LimitsView}
+use Rattle.sync_client.specs.Ending.{Origin, origin_of, Finished, Stopped}
+use Rattle.sync_client.specs.declared.fault.SyncFault.{SyncFault}
+use Rattle.sync_client.specs.declared.fault.SyncFault.TheVariants as sync
+use Rattle.sync_net.specs.View.{MachineView}
+use Rattle.sync_net.specs.Wire.{Wire}
+
+-- a machine that has asked nothing and holds nothing, with this next number
+abbrev pub idle : Option ℕ → MachineView
+idle next = record { next = next; pending = []; held = []; closed = false }
+
+-- how the call begins: with an idle machine, whose first number is 1
+abbrev pub beginning : Target → LimitsView → Option Wire → ℕ → Origin AnyOp
+beginning target limits wire count = origin_of any_at any_spelling any_spelling target limits (idle (Some 1)) wire count
+
+-- the session over what the link gave made this part
+pub record IsFetched (o : Origin AnyOp) (wire : Option Wire) (part : Fetched AnyOp) : Type 0 where
+  pub machine : MachineView
+  pub finished : Finished o part machine wire
+
+-- the session over what the link gave ended with this fault
+pub record IsStopped (o : Origin AnyOp) (wire : Option Wire) (count : ℕ) (fault : SyncFault) : Type 0 where
+  pub machine : MachineView
+  pub stopped : Stopped o fault machine wire count
+
+-- a fault of the session as one of the whole call, which begins with an open machine and its first number
+abbrev pub fault_of_sync : SyncFault → Fault
+fault_of_sync sync.Network = Network
+fault_of_sync sync.RequestChannelClosed = RequestChannelClosed
+fault_of_sync sync.InvalidResponse = InvalidResponse
+fault_of_sync (sync.UnexpectedResponse number) = UnexpectedResponse number
+fault_of_sync (sync.Server code text) = Server code text
+fault_of_sync (sync.InvalidProof number) = InvalidProof number
+fault_of_sync sync.TooManyStrays = TooManyStrays
+fault_of_sync (sync.WrongRoot found) = WrongRoot found
+fault_of_sync sync.Closed = OutOfMemory
+fault_of_sync sync.Exhausted = OutOfMemory
+fault_of_sync sync.OutOfMemory = OutOfMemory
+
+-- a fault that a session with an open machine and numbers left may have
+abbrev pub MayStop : SyncFault → Type 0
+MayStop sync.Closed = ⊥
+MayStop sync.Exhausted = ⊥
+MayStop fault = ⊤
+
+module _ {T A E : Type 0} (m : Meaning T A E) where
+  -- the part that was fetched, and the report of these blocks over it
+  pub record Follows (o : Origin AnyOp) (wire : Option Wire) (blocks : List (Block T)) (report : Report A) : Type 0 where
+    pub part : Fetched AnyOp
+    pub fetched : IsFetched o wire part
+    pub pinned : report.pinned ≡ part.pinned
+    pub kept : report.kept ≡ part.ops
+    pub report_is : ReportOf m o.start.plan.target blocks report
+
+  -- the part that was fetched, over which these blocks have no report, for this cause
+  pub record HasNoReport (o : Origin AnyOp) (wire : Option Wire) (blocks : List (Block T)) (cause : ReportFault) : Type 0 where
+    pub part : Fetched AnyOp
+    pub fetched : IsFetched o wire part
+    pub fails : RunFails m o.start.plan.target part.ops blocks cause
+
+  -- why a log wasn't followed: the first offence of the session, or else why its part and the blocks have no report
+  abbrev pub FollowFails : Origin AnyOp → Option Wire → ℕ → List (Block T) → Fault → Type 0
+  FollowFails o wire count blocks Network = IsStopped o wire count sync.Network
+  FollowFails o wire count blocks RequestChannelClosed = IsStopped o wire count sync.RequestChannelClosed
+  FollowFails o wire count blocks InvalidResponse = IsStopped o wire count sync.InvalidResponse
+  FollowFails o wire count blocks (UnexpectedResponse number) = IsStopped o wire count (sync.UnexpectedResponse number)
+  FollowFails o wire count blocks (Server code text) = IsStopped o wire count (sync.Server code text)
+  FollowFails o wire count blocks (InvalidProof number) = IsStopped o wire count (sync.InvalidProof number)
+  FollowFails o wire count blocks TooManyStrays = IsStopped o wire count sync.TooManyStrays
+  FollowFails o wire count blocks (WrongRoot found) = IsStopped o wire count (sync.WrongRoot found)
+  FollowFails o wire count blocks (BadLog location) = HasNoReport o wire blocks (causes.BadLog location)
+  FollowFails o wire count blocks (BadValue location) = HasNoReport o wire blocks (causes.BadValue location)
+  FollowFails o wire count blocks (Rejected block rejection) = HasNoReport o wire blocks (causes.Rejected block rejection)
+  FollowFails o wire count blocks (Full block) = HasNoReport o wire blocks (causes.Full block)
+  FollowFails o wire count blocks OutOfMemory = ⊤
+
+-- each answer but Network and want of memory leaves the link's count
+abbrev pub LeavesCount : {X : Type 0} → Result X Fault → ℕ → ℕ → Type 0
+LeavesCount (Err Network) before now = ⊤
+LeavesCount (Err OutOfMemory) before now = ⊤
+LeavesCount result before now = now ≡ before
+
+-- the count stays, and Network isn't answered
+abbrev pub IsSteady : {X : Type 0} → Result X Fault → ℕ → ℕ → Type 0
+IsSteady (Err Network) before now = ⊥
+IsSteady result before now = now ≡ before
