@@ -24,6 +24,8 @@ mod limits;
 mod ranges;
 mod session;
 mod steps;
+#[cfg(test)]
+mod tests;
 
 pub use collector::{Collector, Piece};
 pub use fault::{CollectFault, SyncFault};
