@@ -47,11 +47,12 @@ sent : {Op : Type 0} (s u : State Op) (a : Ask) → ask_next s ≡ Send a u → 
 unfolding ask_next
 sent s u a e =
     elim (cases_Bool (nat_lt (length s.pending) s.plan.limits.outstanding)) [
-      inl lt ↦
-        let q = rw lt at e in
-        let c = counted_next s u a (range_next s.plan s.rests s.fresh) q in
-        record { number = c.0; first = c.1; follows = c.2; more = c.3; plan = c.4; room = ltb-true (length s.pending) s.plan.limits.outstanding lt }
-    | inr ge ↦ let q = rw ge at e in absurd (cc q) ]
+      | inl lt ↦
+          let q = rw lt at e in
+          let c = counted_next s u a (range_next s.plan s.rests s.fresh) q in
+          record { number = c.0; first = c.1; follows = c.2; more = c.3; plan = c.4; room = ltb-true (length s.pending) s.plan.limits.outstanding lt }
+      | inr ge ↦ let q = rw ge at e in absurd (cc q)
+    ]
 
 -- where there is no number for an ask, there is no next number
 numberless : {Op : Type 0} (s : State Op) (r : Range ℕ) (rests : List (Range ℕ)) (fresh : ℕ) (o : Option ℕ) → s.next ≡ o → numbered s r rests fresh o ≡ Exhausted → s.next ≡ None
@@ -66,8 +67,9 @@ exhausted : {Op : Type 0} (s : State Op) → ask_next s ≡ Exhausted → s.next
 unfolding ask_next
 exhausted s e =
     elim (cases_Bool (nat_lt (length s.pending) s.plan.limits.outstanding)) [
-      inl lt ↦ let q = rw lt at e in numberless_next s (range_next s.plan s.rests s.fresh) q
-    | inr ge ↦ let q = rw ge at e in absurd (cc q) ]
+      | inl lt ↦ let q = rw lt at e in numberless_next s (range_next s.plan s.rests s.fresh) q
+      | inr ge ↦ let q = rw ge at e in absurd (cc q)
+    ]
 
 -- ---- one frame
 
@@ -88,13 +90,14 @@ without (Some i) xs = removed xs i
 took_answer : {Op : Type 0} (rules : Rules Op) (u v : State Op) (a : Ask) (m : Message Op) → answered rules u a m ≡ Ok v → Took u v
 took_answer {Op} rules u v a (messages.GetOperationsResponse m) e =
     elim (cases_Bool (good rules.proved u.plan.target.start a.range m)) [
-      inl ok ↦
-        let q = rw ok at e in
-        let p : with_answer a m u ≡ v = cc q in
-        let w = without (place_of a.number u.pending) u.pending in
-        let n : length (with_answer a m u).pending ≡ length v.pending = ap (λ (s : State Op). length s.pending) p in
-        record { next = sym (ap (λ (s : State Op). s.next) p); plan = sym (ap (λ (s : State Op). s.plan) p); most = (let z = w.0 in omega arith); least = (let z = w.1 in omega arith) }
-    | inr bad ↦ let q = rw bad at e in absurd (cc q) ]
+      | inl ok ↦
+          let q = rw ok at e in
+          let p : with_answer a m u ≡ v = cc q in
+          let w = without (place_of a.number u.pending) u.pending in
+          let n : length (with_answer a m u).pending ≡ length v.pending = ap (λ (s : State Op). length s.pending) p in
+          record { next = sym (ap (λ (s : State Op). s.next) p); plan = sym (ap (λ (s : State Op). s.plan) p); most = (let z = w.0 in omega arith); least = (let z = w.1 in omega arith) }
+      | inr bad ↦ let q = rw bad at e in absurd (cc q)
+    ]
 took_answer rules u v a (messages.GetOperationsRequest m) e = absurd (cc e)
 took_answer rules u v a (messages.GetSyncTargetRequest m) e = absurd (cc e)
 took_answer rules u v a (messages.GetSyncTargetResponse m) e = absurd (cc e)
@@ -108,13 +111,14 @@ took_by : {Op : Type 0} (rules : Rules Op) (u v : State Op) (m : Message Op) (o 
 took_by rules u v m (Some a) e = took_answer rules u v a m e
 took_by {Op} rules u v m None e =
     elim (cases_Bool (nat_lt u.strays 1024)) [
-      inl lt ↦
-        let q = rw lt at e in
-        let n : State Op = record u { strays = u.strays + 1 } in
-        let p : n ≡ v = cc q in
-        let k : length n.pending ≡ length v.pending = ap (λ (s : State Op). length s.pending) p in
-        record { next = sym (ap (λ (s : State Op). s.next) p); plan = sym (ap (λ (s : State Op). s.plan) p); most = omega arith; least = omega arith }
-    | inr ge ↦ let q = rw ge at e in absurd (cc q) ]
+      | inl lt ↦
+          let q = rw lt at e in
+          let n : State Op = record u { strays = u.strays + 1 } in
+          let p : n ≡ v = cc q in
+          let k : length n.pending ≡ length v.pending = ap (λ (s : State Op). length s.pending) p in
+          record { next = sym (ap (λ (s : State Op). s.next) p); plan = sym (ap (λ (s : State Op). s.plan) p); most = omega arith; least = omega arith }
+      | inr ge ↦ let q = rw ge at e in absurd (cc q)
+    ]
 
 took_read : {Op : Type 0} (rules : Rules Op) (u v : State Op) (read : Result (Message Op) CodecError) → taken rules u read ≡ Ok v → Took u v
 took_read rules u v (Ok m) e = took_by rules u v m (ask_under (number_of m) u.pending) e
@@ -147,11 +151,12 @@ sent_then {Op} s u t frames asks a r =
       plan = r.plan ∙ a.plan;
       few = (let x = r.few in let y = a.more in omega arith);
       bound = λ (h : length s.pending ≤ s.plan.limits.outstanding).
-        (let y = a.more in let z = a.room in let w : length t.pending ≤ u.plan.limits.outstanding = r.bound (omega arith) in omega arith);
+          (let y = a.more in let z = a.room in let w : length t.pending ≤ u.plan.limits.outstanding = r.bound (omega arith) in omega arith);
       next = λ (n : ℕ) (e : s.next ≡ Some n) (lt : n + suc asks < 2 ^ 64).
-        (let k : a.number ≡ n = cc (sym a.first ∙ e) in
-         let one : u.next ≡ Some (n + 1) = a.follows ∙ (ap number_after k ∙ number_on n (omega arith)) in
-         r.next (n + 1) one (omega arith) ∙ ap Some (omega arith)) }
+          (let k : a.number ≡ n = cc (sym a.first ∙ e) in
+          let one : u.next ≡ Some (n + 1) = a.follows ∙ (ap number_after k ∙ number_on n (omega arith)) in
+          r.next (n + 1) one (omega arith) ∙ ap Some (omega arith));
+    }
 
 sends : {Op : Type 0} (s t : State Op) (asks : List Ask) → Sends s asks t → Run s t 0 (length asks)
 sends {Op} s t [] e = subst (λ (v : State Op). Run s v 0 0) e (stays s)
@@ -166,10 +171,11 @@ took_then {Op} s u v t frames now later a k r =
       plan = r.plan ∙ same;
       few = (let x = a.few in let y = r.few in let z = k.most in omega arith);
       bound = λ (h : length s.pending ≤ s.plan.limits.outstanding).
-        (let x = a.bound h in let y = k.least in let w : length t.pending ≤ v.plan.limits.outstanding = r.bound (omega arith) in omega arith);
+          (let x = a.bound h in let y = k.least in let w : length t.pending ≤ v.plan.limits.outstanding = r.bound (omega arith) in omega arith);
       next = λ (n : ℕ) (e : s.next ≡ Some n) (lt : n + (now + later) < 2 ^ 64).
-        (let one : v.next ≡ Some (n + now) = k.next ∙ a.next n e (omega arith) in
-         r.next (n + now) one (omega arith) ∙ ap Some (omega arith)) }
+          (let one : v.next ≡ Some (n + now) = k.next ∙ a.next n e (omega arith) in
+          r.next (n + now) one (omega arith) ∙ ap Some (omega arith));
+    }
 
 reaches : {Op : Type 0} (rules : Rules Op) (s t : State Op) (bodies : List (List ℕ)) (asks : List Ask) → Reaches rules s bodies asks t → Run s t (length bodies) (length asks)
 reaches rules s t [] asks h = sends s t asks h
