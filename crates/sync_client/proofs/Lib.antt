@@ -19,3 +19,4 @@ pub mod ServingSteps
 pub mod ServingTakes
 pub mod ServingTurns
 pub mod ServingEnds
+pub mod SentOperations

@@ -70,7 +70,7 @@ within_short : (k n : ℕ) → length (varint_within k n) ≤ k
 within_short zero n = omega arith
 within_short (suc k) n = either_short (nat_lt n 128) n k (varint_within k (n / 128)) (within_short k (n / 128))
 
-varint_short : (n : ℕ) → length (varint n) ≤ 10
+pub varint_short : (n : ℕ) → length (varint n) ≤ 10
 unfolding varint
 varint_short n = within_short 10 n
 
