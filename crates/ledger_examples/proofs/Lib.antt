@@ -1,0 +1,3 @@
+pub mod Batching
+pub mod Making
+pub mod Agreeing

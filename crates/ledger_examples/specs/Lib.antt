@@ -1,0 +1,4 @@
+pub mod Names
+pub mod Tests
+pub mod Batches
+pub mod Laws
