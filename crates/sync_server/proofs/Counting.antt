@@ -1,7 +1,7 @@
 -- What a counted call says of a link's count.
-use Rattle.std.proofs.Common.{◌≡◌, ℕ, ◌+◌, ◌-◌, ◌^◌, ◌≤◌, min, Bool, true, false, List, [], Result, Ok, Err, refl, sym, ap, ◌∙◌, arith}
-use Rattle.ledger_codec.specs.Causes.{Rose, HasCauseOf}
-use Rattle.ledger_codec.specs.Memory.{is_among, next_call}
+use Rattle.std.proofs.Common.{◌≡◌, ◌≤◌, Bool, true, false, [], Result, Ok, Err, ap, ◌∙◌, arith}
+use Rattle.ledger_codec.specs.Causes.{HasCauseOf}
+use Rattle.ledger_codec.specs.Memory.{is_among}
 use Rattle.sync_net.specs.declared.link.LinkError.{LinkError}
 use Rattle.sync_net.specs.declared.link.LinkError.TheVariants.{Failed, OutOfMemory}
 use Rattle.sync_net.specs.Wire.{CountStays, CannotFail}

@@ -1,5 +1,5 @@
 -- The framed reply to a framed request.
-use Rattle.std.proofs.Common.{◌≡◌, ℕ, ◌+◌, ◌/◌, ◌%◌, ◌<◌, ◌≤◌, Bool, true, false, cond, nat_lt, length-append, List, [], ◌∷◌, length, All, Option, Some, None, Result, Ok, Err, refl, sym, ap, subst, ◌∙◌, arith}
+use Rattle.std.proofs.Common.{◌≡◌, ℕ, ◌+◌, ◌/◌, ◌%◌, ◌<◌, Bool, true, false, cond, nat_lt, length-append, List, [], ◌∷◌, length, Option, Some, None, Ok, refl, sym, ap, subst, ◌∙◌, arith}
 use Rattle.std.specs.Prelude.{is_some, option_and_then, option_map, IfSome}
 use Rattle.sha2.specs.Sha256.{sha256}
 use Rattle.ledger_codec.specs.declared.fault.CodecError.{CodecError}
@@ -7,15 +7,14 @@ use Rattle.ledger_codec.specs.declared.fault.CodecError.TheVariants as faults
 use Rattle.ledger_codec.specs.Parsing.{Parsed, Fails}
 use Rattle.ledger_codec.specs.Sequences.{all_of, string_written}
 use Rattle.ledger_codec.specs.Numbers.{varint, varint_within}
-use Rattle.ledger_codec.specs.Frames.{Front, Whole, Short, Bad, front}
+use Rattle.ledger_codec.specs.Frames.{Front, Whole, front}
 use Rattle.ledger_log.specs.View.{LogView, log_floor}
-use Rattle.ledger_log.specs.Spellings.{CompactStateFits}
 use Rattle.sync_net.specs.declared.message.Message.{Message}
 use Rattle.sync_net.specs.declared.message.Message.TheVariants as messages
 use Rattle.sync_net.specs.declared.ask.Ask.{Ask}
 use Rattle.sync_net.specs.declared.ask.Ask.TheVariants as asks
 use Rattle.sync_net.specs.Asks.{request_of}
-use Rattle.sync_net.specs.Messages.{message_at, message_written, MessageFits, OperationsResponseFits}
+use Rattle.sync_net.specs.Messages.{message_at, message_written, MessageFits}
 use Rattle.sync_net.specs.Core.{core, data_of, request_in, request_read, request_framed, nothing_at, asked, reply_frame, reply_to, Request}
 use Rattle.sync_net.proofs.PlainData.{reply_same}
 use Rattle.sync_net.proofs.Requests.{request_same}

@@ -1,5 +1,5 @@
 -- A link in memory serves: what it is sent is owed, and what it gives is a part of one owed reply.
-use Rattle.std.proofs.Common.{◌≡◌, ℕ, suc, ◌+◌, ◌-◌, ◌%◌, ◌^◌, ◌<◌, ◌≤◌, ◌⊎◌, min, max, Bool, true, false, cond, nat_lt, eqb, List, [], ◌∷◌, ◌++◌, length, take, drop, get_or, slice_get, All, Option, Some, None, Result, Ok, Err, inl, inr, refl, sym, ap, ◌∙◌, arith, subst, lit≤, length-drop}
+use Rattle.std.proofs.Common.{◌≡◌, ℕ, suc, ◌+◌, ◌-◌, ◌%◌, ◌<◌, ◌⊎◌, min, Bool, true, false, cond, nat_lt, eqb, List, [], ◌∷◌, length, take, drop, get_or, slice_get, All, Option, Some, None, Result, Ok, Err, inl, inr, refl, sym, ap, ◌∙◌, arith, subst, lit≤, length-drop}
 use Rattle.std.specs.List.{remove}
 use Rattle.std.proofs.lemmas.Bool.Decides.{nat_tests}
 use Rattle.std.proofs.lemmas.List.{drop-drop}
@@ -8,8 +8,8 @@ use Rattle.std.proofs.lemmas.Option.{get_or_from_slice_get, slice_get_cases}
 use Rattle.sync_net.specs.declared.link.LinkError.{LinkError}
 use Rattle.sync_net.specs.declared.link.LinkError.TheVariants.{Failed, OutOfMemory}
 use Rattle.sync_net.specs.Core.{data_of, reply_to}
-use Rattle.sync_net.specs.Service.{Service, service_of, service_sent, owes, ServiceReceived, Receives, Chosen, Goes}
-use Rattle.sync_server.specs.Links.{CallsView, CutsView, called, cut_of, next_cut, cut_more, given_count, MemoryView, next_place, begun_with, started, started_for, owing, delivered, MemorySends, MemoryReceives, service_told}
+use Rattle.sync_net.specs.Service.{Service, service_of, service_sent, ServiceReceived, Receives}
+use Rattle.sync_server.specs.Links.{CallsView, CutsView, called, cut_of, next_cut, cut_more, given_count, MemoryView, next_place, begun_with, started_for, owing, delivered, MemorySends, MemoryReceives, service_told}
 
 -- ---- sends
 

@@ -1,5 +1,5 @@
 -- A tape moves on by the bytes that it gave.
-use Rattle.std.proofs.Common.{◌≡◌, ℕ, ◌+◌, ◌-◌, ◌≤◌, min, Bool, List, ◌++◌, length, take, drop, Ok, refl, sym, ap, ◌∙◌, arith, length-drop}
+use Rattle.std.proofs.Common.{◌≡◌, ℕ, ◌+◌, ◌-◌, min, Bool, List, ◌++◌, length, take, drop, Ok, refl, sym, ◌∙◌, length-drop}
 use Rattle.std.proofs.Math.Seq.{take-add}
 use Rattle.std.proofs.lemmas.List.{drop-drop}
 use Rattle.sync_server.specs.Links.{CallsView, CutsView, next_cut, given_count, TapeView, ended_after, cut_more, called, TapeReceives}

@@ -1,6 +1,6 @@
-use Rattle.std.proofs.Common.{List, ℕ, ap, ◌∙◌}
+use Rattle.std.proofs.Common.{ap, ◌∙◌}
 use Rattle.ledger_codec.specs.Sequences.{string_written}
-use Rattle.sync_server.proofs.Framing.{framed_reply_is, fits_all, some_frame}
+use Rattle.sync_server.proofs.Framing.{framed_reply_is}
 use Rattle.sync_server.proofs.framed.framed_reply.Goals as goal
 
 pub returns-in_ok-frame-in-Some-clause-reply : goal.returns-in_ok-frame-in-Some-clause-reply

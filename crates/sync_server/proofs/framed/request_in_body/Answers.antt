@@ -1,4 +1,4 @@
-use Rattle.std.proofs.Common.{◌≡◌, sym, ◌∙◌}
+use Rattle.std.proofs.Common.{sym, ◌∙◌}
 use Rattle.sync_server.proofs.Framing.{read_is, unread_is, no_request}
 use Rattle.sync_server.proofs.framed.request_in_body.Goals as goal
 

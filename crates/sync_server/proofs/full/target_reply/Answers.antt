@@ -1,4 +1,4 @@
-use Rattle.std.proofs.Common.{◌≡◌, sym, ap, ◌∙◌}
+use Rattle.std.proofs.Common.{sym, ap, ◌∙◌}
 use Rattle.ledger_log.specs.View.{floor_or_zero}
 use Rattle.sync_server.proofs.Targets.{target_is}
 use Rattle.sync_server.proofs.full.target_reply.Goals as goal

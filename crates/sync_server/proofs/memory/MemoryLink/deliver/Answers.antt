@@ -1,5 +1,5 @@
 use Rattle.std.proofs.Common.{◌-◌, ◌<◌, List, ℕ, length, take, drop, min, ap, ◌∙◌, subst, refl, All, Ok}
-use Rattle.sync_server.specs.Links.{MemoryView, MemoryReceives, next_cut, cut_more, called, started_for}
+use Rattle.sync_server.specs.Links.{MemoryView, next_cut, cut_more, called, started_for}
 use Rattle.sync_server.proofs.Serving.{delivers, service_given}
 use Rattle.sync_server.proofs.memory.MemoryLink.deliver.Goals as goal
 
