@@ -22,24 +22,27 @@ abbrev pub test_metadata : Bool → Option (List ℕ)
 test_metadata true = Some (replicate 32 1)
 test_metadata false = None
 
--- any and current: an Update, and commits with the number of operations before them as floor
+-- any and current update the key
 abbrev pub any_test : List ℕ → List ℕ → AnyOp
 any_test key value = any.Update key value
 
+-- their commits have the number of operations before them as floor
 abbrev pub any_test_commit : ℕ → ℕ → Bool → AnyOp
 any_test_commit start count last = any.CommitFloor None count
 
--- immutable: a Set, and commits with the given floor
+-- immutable sets the key
 abbrev pub immutable_test : List ℕ → List ℕ → ImmutableOp
 immutable_test key value = immutable.Set key value
 
+-- its commits have the given floor
 abbrev pub immutable_test_commit : ℕ → ℕ → Bool → ImmutableOp
 immutable_test_commit start count last = immutable.Commit (test_metadata last) start
 
--- keyless: the key is appended as a value, and commits with the given floor
+-- keyless appends the key as a value
 abbrev pub keyless_test : List ℕ → List ℕ → KeylessOp
 keyless_test key value = keyless.Append key
 
+-- its commits have the given floor
 abbrev pub keyless_test_commit : ℕ → ℕ → Bool → KeylessOp
 keyless_test_commit start count last = keyless.Commit (test_metadata last) start
 

@@ -6,11 +6,30 @@ ghost use Rattle.ledger_examples.specs.Batches.{first_refusal, added_batches, wi
 use crate::adding::add;
 use crate::operations::make_operations;
 use crate::{BatchStore, CompactConfig, CompactExampleFamily, Config, ExampleFamily};
+use ledger_activity::CurrentFamily;
 use ledger_codec::Digest;
 use ledger_compact::CompactLog;
-use ledger_log::{Log, LogFault};
-use ledger_merkle::{Hasher, Location};
+use ledger_log::{AnyFamily, ImmutableFamily, KeylessFamily, Log, LogFault};
+use ledger_merkle::{Hasher, Location, Sha256Hasher};
 use std::alloc::Global;
+
+/// The full database of the family any, over SHA-256.
+pub type AnyDatabase = Log<AnyFamily, Sha256Hasher>;
+
+/// The full database of the family current, over SHA-256.
+pub type CurrentDatabase = Log<CurrentFamily, Sha256Hasher>;
+
+/// The full database of the family immutable, over SHA-256.
+pub type ImmutableDatabase = Log<ImmutableFamily, Sha256Hasher>;
+
+/// The full database of the family keyless, over SHA-256.
+pub type KeylessDatabase = Log<KeylessFamily, Sha256Hasher>;
+
+/// The compact database of the family immutable, over SHA-256.
+pub type CompactImmutableDatabase = CompactLog<ImmutableFamily, Sha256Hasher>;
+
+/// The compact database of the family keyless, over SHA-256.
+pub type CompactKeylessDatabase = CompactLog<KeylessFamily, Sha256Hasher>;
 
 /// A database by which a server or a client is tried. What it does is said once, over its family and its store;
 /// its name and its layout are its own.

@@ -25,7 +25,10 @@ mod tests;
 
 pub use agreement::agree;
 pub use config::{CompactConfig, Config, crate_version};
-pub use database::ExampleDatabase;
+pub use database::{
+    AnyDatabase, CompactImmutableDatabase, CompactKeylessDatabase, CurrentDatabase,
+    ExampleDatabase, ImmutableDatabase, KeylessDatabase,
+};
 pub use family::{CompactExampleFamily, ExampleFamily};
 pub use ledger_compact::CompactSyncable;
 pub use names::{DatabaseType, StorageKind, SyncMode};
