@@ -1,0 +1,152 @@
+//! Fills a log and proves ranges of it, to be timed. Its words are four numbers: how many operations are
+//! appended, how many a batch holds, how many ranges are proved, and how many operations a range holds.
+//!
+//! ```text
+//! words --> batches --append_batch--> Log --historical_proof--> check_range
+//!                                      |                             |
+//!                                      +--> size, root               +--> ranges that are right
+//! ```
+//!
+//! What it prints depends on its words alone, so that two programs can be compared.
+#![tactic(auto)]
+
+ghost use Rattle.std.specs.Prelude.{◌<◌};
+ghost use Rattle.ledger_log.specs.View.{log_size};
+
+use ledger_log::{AnyFamily, AnyOp, Key, Log, LogFault};
+use ledger_merkle::{Location, Sha256Hasher, check_range};
+use std::alloc::Global;
+use std::env;
+use std::num::NonZeroU64;
+use std::process::ExitCode;
+use std::rt::Env;
+
+type AnyLog = Log<AnyFamily, Sha256Hasher>;
+
+/// What is done. A word that is missing or no number is 0.
+#[derive(Clone, Copy)]
+struct Work {
+    operations: u64,
+    batch: u64,
+    ranges: u64,
+    span: u64,
+}
+
+/// The number that a word spells.
+fn number(word: Option<String>) -> u64 {
+    match word {
+        Some(word) => word.parse::<u64>().unwrap_or(0),
+        None => 0,
+    }
+}
+
+/// The work that the words ask for.
+fn read_work<R: Env + AllocGlobal>(rt: &R) -> Work {
+    let Ok(args) = env::args(rt) else {
+        return Work {
+            operations: 0,
+            batch: 0,
+            ranges: 0,
+            span: 0,
+        };
+    };
+    let mut words = args.skip(1);
+    Work {
+        operations: number(words.next()),
+        batch: number(words.next()),
+        ranges: number(words.next()),
+        span: number(words.next()),
+    }
+}
+
+/// The key of this number.
+fn key(number: u64) -> Key {
+    let mut key = [0; 32];
+    for (place, byte) in number.to_be_bytes().iter().enumerate() {
+        key[place] = *byte;
+    }
+    key
+}
+
+/// So many operations: updates of keys from `first` on, and a commit.
+fn batch_of(
+    alloc: Global,
+    first: u64,
+    count: u64,
+    floor: Location,
+) -> Result<Vec<AnyOp>, LogFault> {
+    let mut ops = Vec::new(alloc);
+    for i in 1..count {
+        let key = key(first.saturating_add(i));
+        ops.push(AnyOp::Update(key, key))?;
+    }
+    ops.push(AnyOp::CommitFloor(None, floor))?;
+    Ok(ops)
+}
+
+/// Appends the operations, batch by batch.
+fn fill(alloc: Global, log: &mut AnyLog, work: Work) -> Result<(), LogFault> {
+    if work.batch == 0 {
+        return Ok(());
+    }
+    for i in 0..work.operations / work.batch {
+        let first = i.saturating_mul(work.batch);
+        let ops = batch_of(alloc, first, work.batch, log.floor())?;
+        log.append_batch(ops.as_slice())?;
+    }
+    Ok(())
+}
+
+/// Proves the range from this place on, and says whether the proof is right.
+fn prove_at(log: &AnyLog, start: Location, span: NonZeroU64) -> Result<bool, LogFault>
+    requires { start < log_size log.now }
+{
+    let size = log.size();
+    let (proof, ops) = log.historical_proof(size, start, span)?;
+    Ok(check_range::<Sha256Hasher, AnyOp>(&log.root(), &proof, size, start, ops.as_slice()).is_ok())
+}
+
+/// Proves one of the ranges that are spread over the log, and says whether the proof is right.
+fn prove_spread(log: &AnyLog, i: u64, span: NonZeroU64) -> Result<bool, LogFault> {
+    let size = log.size().get();
+    if size == 0 {
+        return Ok(false);
+    }
+    match Location::new(i.wrapping_mul(7_919) % size) {
+        Some(start) => prove_at(log, start, span),
+        None => Ok(false),
+    }
+}
+
+/// Proves so many ranges, and gives the number of those that are right.
+fn prove_ranges(log: &AnyLog, work: Work) -> Result<u64, LogFault> {
+    let Some(span) = NonZeroU64::new(work.span) else {
+        return Ok(0);
+    };
+    let mut right = 0u64;
+    for i in 0..work.ranges {
+        if prove_spread(log, i, span)? {
+            right = right.saturating_add(1);
+        }
+    }
+    Ok(right)
+}
+
+/// Does the work, and prints what came of it.
+fn measure<R: Print + AllocGlobal>(rt: &R, work: Work) -> Result<(), LogFault> {
+    let alloc = rt.alloc();
+    let mut log = AnyLog::fresh(alloc)?;
+    fill(alloc, &mut log, work)?;
+    let right = prove_ranges(&log, work)?;
+    let _ = println!(rt; "size {}", log.size().get());
+    let _ = println!(rt; "right {right}");
+    let _ = println!(rt; "root {}", hex::encode(alloc, log.root())?);
+    Ok(())
+}
+
+fn main(rt: HostRuntime) -> ExitCode {
+    match measure(&rt, read_work(&rt)) {
+        Ok(()) => ExitCode::SUCCESS,
+        Err(_) => ExitCode::FAILURE,
+    }
+}
