@@ -20,11 +20,11 @@ PROGRAM = pathlib.Path(__file__).parent.parent / "crates" / "ledger_main" / "out
 
 
 def payments_among(accounts, payments, spare):
-    """Payments in turn; every `spare`-th has a nonce that its payer refuses."""
+    """Payments in turn; from the second turn on every `spare`-th has a nonce that its payer refuses."""
     nonces = [0] * accounts
     for i in range(payments):
         payer = i % accounts
-        odd = spare is not None and i % spare == 0
+        odd = spare is not None and i >= accounts and i % spare == 0
         yield f"pay k{payer} k{(i * 7 + 1) % accounts} 1 {nonces[payer] + odd}"
         nonces[payer] += not odd
 
