@@ -13,6 +13,9 @@
 ghost use Rattle.std.specs.Prelude.{◌<◌};
 ghost use Rattle.ledger_log.specs.View.{log_size};
 
+#[cfg(test)]
+mod tests;
+
 use ledger_log::{AnyFamily, AnyOp, Key, Log, LogFault};
 use ledger_merkle::{Location, Sha256Hasher, check_range};
 use std::alloc::Global;
