@@ -30,7 +30,7 @@ module _ (job : Job) (target : Target) (kept : List AnyOp) (blocks : List (Block
   }
 
   -- what keeps the report away keeps the job's report away
-  pub local_fails : (cause : ReportFault) → RunFails payments target kept blocks cause → LocalFails job (run_fault_of cause)
+  pub local_fails : (cause : ReportFault) → RunFails payments target kept blocks cause → LocalFails job (run_fault_of (fault_of cause))
   local_fails (NoLog location) f = absurd (f.1 w)
   local_fails (NoValue location) f = absurd (served_readable job.opens f.1.place f.1.op (sym (ap (λ ops. slice_get ops f.1.place) k) ∙ f.1.at) f.1.unreadable)
   local_fails (BlockRejected block rejection) f = fails_job (BlockRejected block rejection) f

@@ -1,5 +1,5 @@
 -- That a job whose blocks settle ends with its report, or for want of memory.
-use Rattle.std.proofs.Common.{◌≡◌, ℕ, ◌+◌, ◌*◌, ◌^◌, ◌<◌, ◌≤◌, ◌⊎◌, inl, inr, Bool, true, false, List, [], ◌∷◌, ◌++◌, length, map, Option, Some, None, Result, Ok, Err, ap, sym, ◌∙◌, subst, refl, arith, true≢false}
+use Rattle.std.proofs.Common.{◌≡◌, ℕ, ◌+◌, ◌*◌, ◌^◌, ◌<◌, ◌≤◌, ◌⊎◌, inl, inr, Bool, true, List, [], ◌∷◌, ◌++◌, length, map, Option, Some, None, Result, Ok, Err, sym, ◌∙◌, subst, refl, arith, true≢false}
 use Rattle.std.specs.Prelude.{IfSome, ⊤}
 use Rattle.std.specs.List.{AllByRecursion}
 use Rattle.ledger_codec.specs.Causes.{Rose}
@@ -7,13 +7,12 @@ use Rattle.ledger_job.specs.declared.job.Job.{Job}
 use Rattle.ledger_job.specs.declared.line.Open.{Open}
 use Rattle.ledger_job.specs.declared.payment.Payment.{Payment}
 use Rattle.ledger_job.specs.Payments.{payment_changes}
-use Rattle.ledger_log.specs.declared.any.AnyOp.{AnyOp}
 use Rattle.ledger_log.specs.declared.any.AnyOp.TheVariants.{CommitFloor}
 use Rattle.ledger_log.specs.declared.target.Target.{Target}
-use Rattle.ledger_managed.specs.Spelled.{sequenced_values, sequenced_value, read_sequenced}
+use Rattle.ledger_managed.specs.Spelled.{sequenced_value, read_sequenced}
 use Rattle.ledger_managed.specs.SpelledProofs.{value_reads}
 use Rattle.ledger_program.specs.Faults.{fault_of}
-use Rattle.ledger_program.specs.Run.{payments, max_job, IsJob, IsServed, FailsJob, Unfollowed, IsSettling, Completes, Caused, status_of}
+use Rattle.ledger_program.specs.Run.{payments, max_job, IsServed, FailsJob, Unfollowed, IsSettling, Completes, Caused, status_of}
 use Rattle.ledger_program.specs.Served.{served, update_of, opened_of}
 use Rattle.ledger_program.specs.declared.fault.Fault.{Fault}
 use Rattle.ledger_program.specs.declared.fault.Fault.TheVariants.{Network, RequestChannelClosed, InvalidResponse, UnexpectedResponse, Server, InvalidProof, TooManyStrays, WrongRoot, BadLog, BadValue, Rejected, Full, OutOfMemory as FollowMemory}

@@ -4,5 +4,6 @@ pub mod Fronts
 pub mod Names
 pub mod Lines
 pub mod Locals
+pub mod Links
 pub mod Rooms
 pub mod Completeness

@@ -1,5 +1,5 @@
 -- The log that a job serves, and its target.
-use Rattle.std.proofs.Common.{◌≡◌, ℕ, zero, suc, ◌+◌, ◌^◌, ◌<◌, ◌≤◌, List, [], ◌∷◌, ◌++◌, length, map, Option, Some, None, Result, Err, refl, sym, ◌∙◌, ap, subst, arith, nat_le, nat_lt, cond, Bool, true, false, zero-add, length-append, true≢false}
+use Rattle.std.proofs.Common.{◌≡◌, ℕ, zero, suc, ◌+◌, ◌^◌, ◌<◌, List, [], ◌∷◌, ◌++◌, length, map, Option, Some, None, Result, Err, refl, sym, ◌∙◌, ap, subst, arith, nat_le, nat_lt, cond, Bool, true, false, zero-add, true≢false}
 use Rattle.std.specs.Prelude.{MatchOption, IsOkUnless, count_ones, slice_get, is_some, unwrap_or}
 use Rattle.std.specs.List.{AllByRecursion}
 use Rattle.sha2.specs.Sha256.{sha256}

@@ -1,5 +1,5 @@
 -- What a followed log's session and report answer, as what the whole call does.
-use Rattle.std.proofs.Common.{◌≡◌, ℕ, ◌+◌, ◌-◌, ◌≤◌, ◌^◌, false, true, List, Option, Some, Result, Ok, Err, length, map, refl, sym, ap, subst, ◌∙◌, arith}
+use Rattle.std.proofs.Common.{◌≡◌, ℕ, ◌≤◌, ◌^◌, List, Option, Some, Err, map, refl, sym, subst, arith}
 use Rattle.ledger_job.specs.declared.block.Block.{Block}
 use Rattle.ledger_log.specs.Any.{any_spelling}
 use Rattle.ledger_log.specs.Spellings.{any_at}
@@ -7,8 +7,7 @@ use Rattle.ledger_log.specs.declared.any.AnyOp.{AnyOp}
 use Rattle.ledger_log.specs.declared.target.Target.{Target}
 use Rattle.ledger_merkle.specs.declared.proof.Part.{Part as Fetched}
 use Rattle.ledger_program.specs.Faults.{fault_of}
-use Rattle.ledger_program.specs.Follow.{idle, beginning, IsStopped, IsFetched, HasNoReport, FollowFails, MayStop, fault_of_sync}
-use Rattle.ledger_program.specs.declared.fault.Fault.{Fault}
+use Rattle.ledger_program.specs.Follow.{idle, beginning, FollowFails, FollowsLog, range_in, MayStop, fault_of_sync}
 use Rattle.ledger_settling.specs.Blocks.{Meaning}
 use Rattle.ledger_settling.specs.Faults.{RunFails}
 use Rattle.ledger_settling.specs.Reports.{Spans}
@@ -22,6 +21,10 @@ use Rattle.sync_client.specs.Parts.{IsPartOf}
 use Rattle.sync_client.specs.declared.fault.SyncFault.{SyncFault}
 use Rattle.sync_client.specs.declared.fault.SyncFault.TheVariants as sync
 use Rattle.sync_client.proofs.Numbering.{numbers_last}
+use Rattle.ledger_log.specs.View.{LogView}
+use Rattle.sync_client.specs.Owing.{Begins, OwesNothing, MayStop as MayFail}
+use Rattle.sync_net.specs.Core.{LogData}
+use Rattle.sync_net.specs.Service.{Service}
 use Rattle.sync_net.specs.View.{MachineView}
 use Rattle.sync_net.specs.Wire.{Wire}
 
@@ -90,3 +93,32 @@ module _ {T A E : Type 0} (meaning : Meaning T A E) (blocks : List (Block T)) (t
 
   pub no_report_from : (part : Fetched AnyOp) (cause : ReportFault) → Finished (from target limits before count v) part m wire → RunFails meaning target part.ops blocks cause → FollowFails meaning (beginning target limits before count) wire risen blocks (fault_of cause)
   no_report_from part cause f h = no_report meaning (beginning target limits before count) wire risen blocks part m (subst (λ (x : MachineView). Finished (from target limits before count x) part m wire) e f) cause h
+
+-- ---- over a link that serves a log
+
+-- so the call begins, over a link that serves a log and owes nothing
+pub begins_so : (held : LogData) (v : MachineView) (now : Option Service) → v ≡ idle (Some 1) → OwesNothing held now → Begins held v now
+begins_so held v now e told = subst (λ (x : MachineView). Begins held x now) (sym e) (record { live = refl; empty = refl; small = λ n h. (let one : 1 ≡ n = cc h in omega arith); told = told })
+
+module _ {T A E : Type 0} (meaning : Meaning T A E) (log : LogView AnyOp) (target : Target) (blocks : List (Block T)) where
+  -- the session over such a link has few faults
+  pub session_served : (fault : SyncFault) → MayFail fault → FollowsLog meaning log target blocks (Err (fault_of_sync fault))
+  session_served sync.Network h = tt
+  session_served sync.RequestChannelClosed h = absurd h
+  session_served sync.InvalidResponse h = absurd h
+  session_served (sync.UnexpectedResponse n) h = absurd h
+  session_served (sync.Server code text) h = absurd h
+  session_served (sync.InvalidProof n) h = absurd h
+  session_served sync.TooManyStrays h = absurd h
+  session_served (sync.WrongRoot found) h = absurd h
+  session_served sync.Closed h = absurd h
+  session_served sync.Exhausted h = tt
+  session_served sync.OutOfMemory h = tt
+
+  -- the report's faults are those of the log's own operations
+  pub report_served : (ops : List AnyOp) (cause : ReportFault) → ops ≡ range_in log target → RunFails meaning target ops blocks cause → FollowsLog meaning log target blocks (Err (fault_of cause))
+  report_served ops (causes.BadLog location) e h = subst (λ (x : List AnyOp). RunFails meaning target x blocks (causes.BadLog location)) e h
+  report_served ops (causes.BadValue location) e h = subst (λ (x : List AnyOp). RunFails meaning target x blocks (causes.BadValue location)) e h
+  report_served ops (causes.Rejected block rejection) e h = subst (λ (x : List AnyOp). RunFails meaning target x blocks (causes.Rejected block rejection)) e h
+  report_served ops (causes.Full block) e h = subst (λ (x : List AnyOp). RunFails meaning target x blocks (causes.Full block)) e h
+  report_served ops causes.OutOfMemory e h = tt

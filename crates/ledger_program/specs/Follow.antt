@@ -1,5 +1,7 @@
 -- What following a log over a link gives, and why it fails.
-use Rattle.std.specs.Prelude.{◌≡◌, ℕ, ◌<◌, Bool, false, List, [], Option, Some, Result, Ok, Err, ⊤}
+use Rattle.std.specs.Prelude.{◌≡◌, ℕ, ◌-◌, false, List, [], Option, Some, Result, Ok, Err, ⊤}
+use Rattle.sha2.specs.Sha256.{sha256}
+use Rattle.ledger_log.specs.View.{LogView, log_range, log_peaks_at}
 use Rattle.ledger_job.specs.declared.block.Block.{Block}
 use Rattle.ledger_log.specs.Any.{any_spelling}
 use Rattle.ledger_log.specs.Spellings.{any_at}
@@ -89,6 +91,22 @@ module _ {T A E : Type 0} (m : Meaning T A E) where
   FollowFails o wire count blocks (Rejected block rejection) = HasNoReport o wire blocks (causes.Rejected block rejection)
   FollowFails o wire count blocks (Full block) = HasNoReport o wire blocks (causes.Full block)
   FollowFails o wire count blocks OutOfMemory = ⊤
+
+-- the operations of the target's range
+abbrev pub range_in : LogView AnyOp → Target → List AnyOp
+range_in log target = log_range log target.start (target.end - target.start)
+
+module _ {T A E : Type 0} (m : Meaning T A E) where
+  -- Over a link that serves this log what was fetched is the log's own: its operations, and its nodes where they begin. Without a report a call of the link failed, memory was wanting, or the log's own operations and the blocks have none.
+  abbrev pub FollowsLog : LogView AnyOp → Target → List (Block T) → Result (Report A) Fault → Type 0
+  FollowsLog log target blocks (Ok report) = (report.kept ≡ range_in log target) × (report.pinned ≡ log_peaks_at sha256 any_spelling log target.start)
+  FollowsLog log target blocks (Err (BadLog location)) = RunFails m target (range_in log target) blocks (causes.BadLog location)
+  FollowsLog log target blocks (Err (BadValue location)) = RunFails m target (range_in log target) blocks (causes.BadValue location)
+  FollowsLog log target blocks (Err (Rejected block rejection)) = RunFails m target (range_in log target) blocks (causes.Rejected block rejection)
+  FollowsLog log target blocks (Err (Full block)) = RunFails m target (range_in log target) blocks (causes.Full block)
+  FollowsLog log target blocks (Err Network) = ⊤
+  FollowsLog log target blocks (Err OutOfMemory) = ⊤
+  FollowsLog log target blocks (Err fault) = ⊥
 
 -- each answer but Network and want of memory leaves the link's count
 abbrev pub LeavesCount : {X : Type 0} → Result X Fault → ℕ → ℕ → Type 0

@@ -26,7 +26,6 @@ use Rattle.ledger_settling.specs.Blocks.{Meaning, meaning, RunsTo}
 use Rattle.ledger_settling.specs.Faults.{RunFails}
 use Rattle.ledger_settling.specs.Reports.{ReportOf, Spans}
 use Rattle.ledger_settling.specs.declared.fault.ReportFault.{ReportFault}
-use Rattle.ledger_settling.specs.declared.fault.ReportFault.TheVariants.{OutOfMemory as NoMemory}
 use Rattle.ledger_settling.specs.declared.report.Report.{Report}
 use Rattle.ledger_managed.specs.SpelledProofs.{sequenced_same}
 use Rattle.ledger_transfers.specs.Accounts.{sequenced_rules}
@@ -107,10 +106,10 @@ pub record SpansLog (target : Target) (log : LogView AnyOp) : Type 0 where
   pub end : target.end ≡ length log.ops
   pub spans : Spans target log.pinned log.ops
 
--- a fault of the report as one of the run
-abbrev pub run_fault_of : ReportFault → RunFault
-run_fault_of NoMemory = OutOfMemory
-run_fault_of cause = Follow (fault_of cause)
+-- a fault of following a log as one of the run
+abbrev pub run_fault_of : Fault → RunFault
+run_fault_of FollowMemory = OutOfMemory
+run_fault_of fault = Follow fault
 
 -- why a job has no report over the log that it serves, which is a log of accounts: a block has none
 abbrev pub LocalFails : Job → RunFault → Type 0

@@ -1,5 +1,5 @@
 -- The log that a job serves.
-use Rattle.std.specs.Prelude.{◌≡◌, ℕ, ◌++◌, List, [], ◌∷◌, None, map, ⊤}
+use Rattle.std.specs.Prelude.{◌≡◌, ◌++◌, List, [], ◌∷◌, None, map, ⊤}
 use Rattle.ledger_job.specs.declared.line.Open.{Open}
 use Rattle.ledger_log.specs.declared.any.AnyOp.{AnyOp}
 use Rattle.ledger_log.specs.declared.any.AnyOp.TheVariants.{Update, CommitFloor}

@@ -6,7 +6,11 @@
 //!      session's fault      no log, no account, no settled block
 //! ```
 ghost use Rattle.std.specs.Prelude.{◌≡◌, IfOk, IfErr, IsTrue};
-ghost use Rattle.ledger_program.specs.Follow.{beginning, Follows, FollowFails, LeavesCount, IsSteady, MayStop, fault_of_sync};
+ghost use Rattle.ledger_program.specs.Follow.{beginning, Follows, FollowFails, FollowsLog, LeavesCount, IsSteady, MayStop, fault_of_sync};
+ghost use Rattle.ledger_log.specs.Any.{any_spelling, IsSoundAny};
+ghost use Rattle.sync_client.specs.Owing.{OwesNothing};
+ghost use Rattle.sync_client.specs.Serving.{Serves};
+ghost use Rattle.sync_net.specs.Core.{LogData};
 ghost use Rattle.sync_client.specs.Runs.{SessionLaws};
 ghost use Rattle.ledger_settling.specs.Blocks.{meaning};
 ghost use Rattle.ledger_settling.specs.Reports.{ReportOf};
@@ -65,6 +69,7 @@ pub fn follow<
     ensures follows { IfOk result (Follows (meaning T.changes_of A.eq A.rules A.values) (beginning target.now limits.now (L.wire link.old) (L.faults link.old)) (L.wire link.new) blocks.now) }
     ensures fails { IfErr result (FollowFails (meaning T.changes_of A.eq A.rules A.values) (beginning target.now limits.now (L.wire link.old) (L.faults link.old)) (L.wire link.new) (L.faults link.new) blocks.now) }
     ensures one_way { SessionLaws (beginning target.now limits.now (L.wire link.old) (L.faults link.old)).rules (beginning target.now limits.now (L.wire link.old) (L.faults link.old)).start }
+    ensures serving { (held : LogData) → (h : Serves any_spelling IsSoundAny held target.now) → OwesNothing held (L.service link.old) → FollowsLog (meaning T.changes_of A.eq A.rules A.values) h.log target.now blocks.now result }
     ensures exact_count { IsTrue L.exact → LeavesCount result (L.faults link.old) (L.faults link.new) }
     ensures steady_on { L.steady link.old → L.steady link.new × IsSteady result (L.faults link.old) (L.faults link.new) }
 {

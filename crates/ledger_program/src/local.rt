@@ -1,25 +1,34 @@
-//! A job's own log, with the job's blocks settled on it.
-ghost use Rattle.std.specs.Prelude.{◌≡◌, [], IfOk, IfErr};
+//! A job's own log, followed over a link in memory.
+ghost use Rattle.std.specs.Prelude.{◌≡◌, ◌≤◌, ◌^◌, [], IfOk, IfErr};
+ghost use Rattle.ledger_log.specs.Any.{any_floor, any_spelling};
 ghost use Rattle.ledger_program.specs.Run.{ReportsJob, LocalFails, SpansLog, run_fault_of};
+ghost use Rattle.sync_client.specs.Owing.{OwesNothing};
+ghost use Rattle.sync_net.specs.Core.{data_of};
+ghost use Rattle.sync_net.specs.Service.{service_of};
+ghost use Rattle.sync_server.specs.Links.{service_told};
 
 use crate::fault::Fault;
+use crate::following::follow;
 use crate::outcome::RunFault;
 use crate::served::{open_served, served};
-use ledger_job::Job;
+use ledger_job::{Job, JobLimits};
 use ledger_log::{AnyFamily, Log, Target};
 use ledger_merkle::{Location, Sha256Hasher};
-use ledger_settling::{Report, ReportFault, settle_log};
+use ledger_settling::Report;
 use ledger_strategy::Strategy;
 use ledger_transfers::Sequenced;
 use std::alloc::Global;
 use std::random::RandomSource;
 use std::thread::Threads;
+use sync_client::Limits;
+use sync_server::MemoryLink;
 
 /// The target of a whole log.
 fn target_of(log: &Log<AnyFamily, Sha256Hasher>) -> Target
     requires front { log.now.front ≡ 0 }
     requires pinned { log.now.pinned ≡ [] }
-    ensures { SpansLog result log.now }
+    ensures spans { SpansLog result log.now }
+    ensures most { result.end ≤ 2 ^ 62 }
 {
     let _floor = log.floor();
     match Target::new(log.root(), Location::ZERO, log.size()) {
@@ -28,17 +37,45 @@ fn target_of(log: &Log<AnyFamily, Sha256Hasher>) -> Target
     }
 }
 
-/// A fault of the report as one of the run.
-fn run_fault(fault: ReportFault) -> RunFault
-    ensures { result ≡ run_fault_of fault }
+/// A link that serves the log, reply by reply, and whose calls don't fail.
+fn link_to(alloc: Global, log: Log<AnyFamily, Sha256Hasher>) -> MemoryLink<AnyFamily>
+    ensures steady { result.calls.failing ≡ [] }
+    ensures serves { OwesNothing (data_of any_spelling any_floor log) (service_of result.lost (service_told any_spelling any_floor result)) }
 {
-    match fault {
-        ReportFault::OutOfMemory => RunFault::OutOfMemory,
-        fault => RunFault::Follow(Fault::from(fault)),
+    let order = Vec::new(alloc);
+    let cuts = Vec::new(alloc);
+    let failing = Vec::new(alloc);
+    MemoryLink::new(alloc, log, order, cuts, failing)
+}
+
+/// How much is asked at once. A job's text keeps its limits in range; the usual ones stand in for others,
+/// and no answer depends on them.
+fn limits_of(limits: JobLimits) -> Limits {
+    match Limits::new(limits.batch, limits.outstanding as usize) {
+        Some(limits) => limits,
+        None => usual_limits(),
     }
 }
 
-/// The report of the job's blocks over the log that it serves.
+fn usual_limits() -> Limits {
+    match Limits::new(50, 1) {
+        Some(limits) => limits,
+        None => unreachable!(),
+    }
+}
+
+/// A fault of following a log as one of the run.
+fn run_fault(fault: Fault) -> RunFault
+    ensures { result ≡ run_fault_of fault }
+{
+    match fault {
+        Fault::OutOfMemory => RunFault::OutOfMemory,
+        fault => RunFault::Follow(fault),
+    }
+}
+
+/// The report of the job's blocks over the log that it serves, followed over a link in memory whose calls don't
+/// fail.
 pub(crate) fn follow_local<R: RandomSource + Threads + Sync, St: Strategy>(
     rt: &R,
     alloc: Global,
@@ -49,18 +86,17 @@ pub(crate) fn follow_local<R: RandomSource + Threads + Sync, St: Strategy>(
     ensures fails { IfErr result (LocalFails job.now) }
 {
     let ops = served(alloc, job.opens.as_slice())?;
-    let kept = Vec::from_slice(alloc, &ops)?;
     let log = open_served(alloc, ops)?;
     let target = target_of(&log);
-    let pinned = Vec::new(alloc);
-    match settle_log(
+    let limits = limits_of(job.limits);
+    let mut link = link_to(alloc, log);
+    match follow(
         rt,
         alloc,
         &target,
-        pinned,
-        kept,
-        log,
+        &limits,
         job.blocks.as_slice(),
+        &mut link,
         strategy,
     ) {
         Ok(report) => Ok(report),

@@ -1,5 +1,6 @@
 //! The log that a job serves.
-ghost use Rattle.std.specs.Prelude.{◌≡◌, [], IfOk, OnOk};
+ghost use Rattle.std.specs.Prelude.{◌≡◌, [], All, IfOk, OnOk};
+ghost use Rattle.ledger_log.specs.Any.{IsSoundAny};
 ghost use Rattle.ledger_program.specs.Served.{update_of, served, IsServedList, IsLongOrMemory};
 ghost use Rattle.ledger_settling.specs.Reports.{IsWhole};
 
@@ -13,7 +14,8 @@ use std::alloc::{AllocError, Global};
 
 /// What an account that is opened writes.
 fn update(account: &Open) -> AnyOp
-    ensures { result ≡ update_of account.now }
+    ensures is { result ≡ update_of account.now }
+    ensures sound { IsSoundAny result }
 {
     let balance = account.balance;
     let nonce = account.nonce;
@@ -23,7 +25,8 @@ fn update(account: &Open) -> AnyOp
 /// The operations of the log that a job serves: a commit, one Update an `open` line, and a commit.
 #[tactic(auto, unfolding(crate::specs::Served::served))]
 pub(crate) fn served(alloc: Global, accounts: &[Open]) -> Result<Vec<AnyOp>, AllocError>
-    ensures { IfOk result (λ v. v.items ≡ served accounts.now) }
+    ensures list { IfOk result (λ v. v.items ≡ served accounts.now) }
+    ensures sound { IfOk result (λ v. All IsSoundAny v.items) }
 {
     let mut ops = Vec::new(alloc);
     ops.push(AnyOp::CommitFloor(None, Location::ZERO))?;

@@ -1,9 +1,8 @@
-use Rattle.std.proofs.Common.{◌≡◌, ◌≤◌, Option, Some, ℕ, ap, sym, subst, ◌∙◌}
-use Rattle.sync_net.specs.View.{MachineView}
-use Rattle.ledger_program.specs.Faults.{fault_of}
-use Rattle.ledger_program.specs.Follow.{idle, beginning, FollowFails}
+use Rattle.std.proofs.Common.{◌≤◌, Err, ap, sym, subst, ◌∙◌}
+use Rattle.ledger_program.specs.Follow.{idle, beginning, FollowFails, FollowsLog}
 use Rattle.ledger_settling.specs.Blocks.{meaning}
-use Rattle.ledger_program.proofs.Sessions.{may_stop_from, stopped_from, no_report_from}
+use Rattle.sync_client.proofs.SentOperations.{any_sent}
+use Rattle.ledger_program.proofs.Sessions.{may_stop_from, stopped_from, no_report_from, begins_so, session_served, report_served}
 use Rattle.ledger_program.proofs.following.follow.Goals as goal
 
 pub sync_fault-requires : goal.sync_fault-requires
@@ -26,3 +25,25 @@ returns-clause-fails g c =
     let o = beginning c.args.target.now c.args.limits.now (g.L.Link.wire c.args.link.now) (g.L.Link.faults c.args.link.now) in
     subst (FollowFails m o (g.L.Link.wire c.sync_full.new.link) (g.L.Link.faults c.sync_full.new.link) c.args.blocks.now) (sym c.from.ensures)
     (no_report_from m c.args.blocks.now c.args.target.now c.args.limits.now (g.L.Link.wire c.args.link.now) (g.L.Link.faults c.args.link.now) c.new-machine.result _ (g.L.Link.wire c.sync_full.new.link) (g.L.Link.faults c.sync_full.new.link) e c.in-Ok.part c.in-Err-report_of.fault c.in-Ok.ensures.ended c.in-Err-report_of.ensures.fails)
+
+pub returns-in-Err-clause-serving : goal.returns-in-Err-clause-serving
+returns-in-Err-clause-serving g c held h told =
+    let e = c.new-machine.ensures ∙ ap idle c.new.ensures in
+    let m = meaning g.T.Transfer.changes_of g.A.PartialEq.eq g.A.Account.rules g.A.AccountValue.values in
+    let range = h.log in
+    subst (λ f. FollowsLog m range c.args.target.now c.args.blocks.now (Err f)) (sym c.sync_fault.ensures)
+    (session_served m range c.args.target.now c.args.blocks.now c.in-Err.fault (c.in-Err.ensures.serving held any_sent h (begins_so held c.new-machine.result _ e told)))
+
+pub returns-clause-serving : goal.returns-clause-serving
+returns-clause-serving g c held h told =
+    let e = c.new-machine.ensures ∙ ap idle c.new.ensures in
+    let m = meaning g.T.Transfer.changes_of g.A.PartialEq.eq g.A.Account.rules g.A.AccountValue.values in
+    let own = c.in-Ok.ensures.serving held any_sent h (begins_so held c.new-machine.result _ e told) in
+    subst (λ f. FollowsLog m h.log c.args.target.now c.args.blocks.now (Err f)) (sym c.from.ensures)
+    (report_served m h.log c.args.target.now c.args.blocks.now c.in-Ok.part.ops c.in-Err-report_of.fault own.ops c.in-Err-report_of.ensures.fails)
+
+pub returns-in-Ok-report_of-clause-serving : goal.returns-in-Ok-report_of-clause-serving
+returns-in-Ok-report_of-clause-serving g c held h told =
+    let e = c.new-machine.ensures ∙ ap idle c.new.ensures in
+    let own = c.in-Ok.ensures.serving held any_sent h (begins_so held c.new-machine.result _ e told) in
+    (c.in-Ok-report_of.ensures.kept ∙ own.ops, c.in-Ok-report_of.ensures.pinned ∙ own.pinned)

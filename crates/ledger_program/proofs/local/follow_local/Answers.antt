@@ -1,32 +1,40 @@
-use Rattle.std.proofs.Common.{◌≡◌, ◌∙◌, ap, subst, sym, length}
-use Rattle.ledger_program.specs.Run.{payments, LocalFails, IsServed}
+use Rattle.std.proofs.Common.{◌∙◌, ap, subst, sym}
+use Rattle.ledger_log.specs.Any.{any_floor, any_spelling}
+use Rattle.ledger_log.specs.View.{LogView}
+use Rattle.ledger_log.specs.declared.any.AnyOp.{AnyOp}
+use Rattle.ledger_program.specs.Run.{LocalFails, SpansLog}
 use Rattle.ledger_program.specs.Served.{served}
-use Rattle.ledger_program.proofs.Causes.{local_fails}
-use Rattle.ledger_settling.specs.Reports.{ReportOf, IsWhole}
+use Rattle.ledger_program.proofs.Links.{whole_log, serves_whole, reports_job, fails_job}
+use Rattle.ledger_settling.specs.Reports.{IsWhole}
+use Rattle.sync_client.specs.Owing.{OwesNothing}
+use Rattle.sync_net.specs.Core.{data_of}
+use Rattle.sync_net.specs.Service.{service_of}
+use Rattle.sync_server.specs.Links.{service_told}
 use Rattle.ledger_program.proofs.local.follow_local.Goals as goal
 
 pub returns-in-Ok-clause-reports : goal.returns-in-Ok-clause-reports
 returns-in-Ok-clause-reports g c =
-    let job = c.args.job.now in
+    let ops = c.in_ok-ops.ops.items in
     let target = c.target_of-target.result in
-    let ops : c.in_ok-ops.ops.items ≡ served job.opens = c.in_ok-ops.ensures ∙ ap served c.as_slice.ensures in
-    let end : target.end ≡ length (served job.opens) = c.target_of-target.ensures.end ∙ ap (λ l. length l.ops) c.in_ok-log.ensures.log ∙ ap length ops in
-    record {
-      target = target;
-      is_served = record { start = c.target_of-target.ensures.start; end = end };
-      pinned = c.in-Ok.ensures.pinned ∙ c.new-pinned.ensures.items;
-      kept = c.in-Ok.ensures.kept ∙ c.in_ok-kept.ensures.items ∙ c.deref.ensures.value ∙ ops;
-      report_is = subst (λ blocks. ReportOf payments target blocks c.in-Ok.report) c.as_slice-2.ensures c.in-Ok.ensures.report;
-    }
+    let link = c.link_to-link.result in
+    let e = c.in_ok-log.ensures.log in
+    let spans : SpansLog target (whole_log ops) = subst (λ (l : LogView AnyOp). SpansLog target l) e c.target_of-target.ensures.spans in
+    let told = subst (λ (l : LogView AnyOp). OwesNothing (data_of any_spelling any_floor l) (service_of link.lost (service_told any_spelling any_floor link))) e c.link_to-link.ensures.serves in
+    let h = serves_whole ops target c.in_ok-ops.ensures.sound c.target_of-target.ensures.most spans in
+    let own = c.in-Ok.ensures.serving (data_of any_spelling any_floor (whole_log ops)) h told in
+    reports_job c.args.job.now ops target c.as_slice-2.result.now spans (c.in_ok-ops.ensures.list ∙ ap served c.as_slice.ensures) c.as_slice-2.ensures c.in-Ok.report c.in-Ok.ensures.report own
 
-pub returns-in-Err-clause-fails : goal.returns-in-Err-clause-fails
-returns-in-Err-clause-fails g c =
-    let job = c.args.job.now in
+pub returns-clause-fails : goal.returns-clause-fails
+returns-clause-fails g c =
+    let ops = c.in_ok-ops.ops.items in
     let target = c.target_of-target.result in
-    let ops : c.in_ok-ops.ops.items ≡ served job.opens = c.in_ok-ops.ensures ∙ ap served c.as_slice.ensures in
-    let end : target.end ≡ length (served job.opens) = c.target_of-target.ensures.end ∙ ap (λ l. length l.ops) c.in_ok-log.ensures.log ∙ ap length ops in
-    let is : IsServed job target = record { start = c.target_of-target.ensures.start; end = end } in
-    let kept : c.in_ok-kept.kept.items ≡ served job.opens = c.in_ok-kept.ensures.items ∙ c.deref.ensures.value ∙ ops in
-    let whole : IsWhole target.start c.in_ok-kept.kept.items = subst (λ n. IsWhole n c.in_ok-kept.kept.items) (sym c.target_of-target.ensures.start)
-    (subst (IsWhole 0) (sym (c.in_ok-kept.ensures.items ∙ c.deref.ensures.value)) c.in_ok-log.ensures.whole) in
-    subst (LocalFails job) (sym c.run_fault.ensures) (local_fails job target c.in_ok-kept.kept.items c.as_slice-2.result.now is kept c.as_slice-2.ensures whole c.in-Err.fault c.in-Err.ensures.fails)
+    let link = c.link_to-link.result in
+    let e = c.in_ok-log.ensures.log in
+    let spans : SpansLog target (whole_log ops) = subst (λ (l : LogView AnyOp). SpansLog target l) e c.target_of-target.ensures.spans in
+    let told = subst (λ (l : LogView AnyOp). OwesNothing (data_of any_spelling any_floor l) (service_of link.lost (service_told any_spelling any_floor link))) e c.link_to-link.ensures.serves in
+    let h = serves_whole ops target c.in_ok-ops.ensures.sound c.target_of-target.ensures.most spans in
+    let own = c.in-Err.ensures.serving (data_of any_spelling any_floor (whole_log ops)) h told in
+    let whole : IsWhole target.start ops = subst (λ n. IsWhole n ops) (sym spans.start) c.in_ok-log.ensures.whole in
+    let steady = c.in-Err.ensures.steady_on c.link_to-link.ensures.steady in
+    subst (LocalFails c.args.job.now) (sym c.run_fault.ensures)
+    (fails_job c.args.job.now ops target c.as_slice-2.result.now spans (c.in_ok-ops.ensures.list ∙ ap served c.as_slice.ensures) c.as_slice-2.ensures whole c.in-Err.fault _ _ own steady.1)

@@ -2,5 +2,5 @@ use Rattle.std.proofs.Common.{◌∙◌}
 use Rattle.ledger_program.proofs.Locals.{spans_log}
 use Rattle.ledger_program.proofs.local.target_of.Goals as goal
 
-pub returns : goal.returns
-returns c = spans_log c.in-Some.target c.args.log.now c.requires.front c.requires.pinned (c.in-Some.ensures.0 ∙ c.root.ensures) c.in-Some.ensures.1 (c.in-Some.ensures.2 ∙ c.size.ensures.size)
+pub returns-clause-spans : goal.returns-clause-spans
+returns-clause-spans c = spans_log c.in-Some.target c.args.log.now c.requires.front c.requires.pinned (c.in-Some.ensures.0 ∙ c.root.ensures) c.in-Some.ensures.1 (c.in-Some.ensures.2 ∙ c.size.ensures.size)
