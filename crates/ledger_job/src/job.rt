@@ -77,7 +77,7 @@ fn read_lines(alloc: Global, text: &[u8]) -> Result<Vec<Line>, JobFault>
     ensures bad { (n : ℕ) → IsErrOf result (BadLine n) → (k : ℕ) × (first_offence [] (read_lines text.now) ≡ Some k) × (n ≡ k + 1) }
 {
     let lines = lines(alloc, text)?;
-    let mut kept = Vec::new(alloc);
+    let mut kept = Vec::with_capacity(alloc, lines.len())?;
     let mut section = Section::Opening;
     let mut limited = false;
     'each: for (index, bytes) in lines.iter().enumerate() {

@@ -28,7 +28,7 @@ pub(crate) fn served(alloc: Global, accounts: &[Open]) -> Result<Vec<AnyOp>, All
     ensures list { IfOk result (λ v. v.items ≡ served accounts.now) }
     ensures sound { IfOk result (λ v. All IsSoundAny v.items) }
 {
-    let mut ops = Vec::new(alloc);
+    let mut ops = Vec::with_capacity(alloc, accounts.len().saturating_add(2))?;
     ops.push(AnyOp::CommitFloor(None, Location::ZERO))?;
     'opens: for account in accounts {
         ops.push(update(account))?;

@@ -39,7 +39,7 @@ impl<A> Slots<A> {
 pub(crate) fn key_set(alloc: Global, keys: &[Key]) -> Result<IndexSet<Key>, OutOfMemory>
     ensures { IfOk result (λ set. set.keys ≡ firsts bytes_eq keys.now) }
 {
-    let mut set = IndexSet::new(alloc);
+    let mut set = IndexSet::with_capacity(alloc, keys.len())?;
     for key in keys {
         set.insert(*key)?;
     }
@@ -53,11 +53,11 @@ pub(crate) fn touched_keys<E: Copy>(
 ) -> Result<IndexSet<Key>, OutOfMemory>
     ensures { IfOk result (λ set. set.keys ≡ firsts bytes_eq (map (λ t. t.0) touched.now)) }
 {
-    let mut keys = Vec::with_capacity(alloc, touched.len())?;
+    let mut set = IndexSet::new(alloc);
     for (key, _) in touched {
-        keys.push(*key)?;
+        set.insert(*key)?;
     }
-    key_set(alloc, &keys)
+    Ok(set)
 }
 
 /// The accounts under these keys.
@@ -69,7 +69,7 @@ pub(crate) fn reads_of<A: AccountValue>(
     ensures all { IfOk result (λ reads. length reads.items ≡ length keys.now) }
     ensures each { IfOk result (λ reads. AreReads A.eq accounts.now keys.now reads.items) }
 {
-    let mut reads = Vec::new(alloc);
+    let mut reads = Vec::with_capacity(alloc, keys.len())?;
     for key in keys {
         let read = read_one(alloc, accounts, key)?;
         reads.push(read)?;
@@ -167,7 +167,7 @@ pub(crate) fn write_slots<A: AccountValue>(
     ensures ops { IfOk result (λ ops. ops.items ≡ filter_map (λ key. option_and_then (written A.values key) (slot_found slots.now.keys.keys slots.now.slots.items key)) order.now) }
     ensures replay { IfOk result (λ ops. (base : Items Op) → IsReplay A.eq A.values accounts.old base → IsReplay A.eq A.values accounts.new (base ++ ops.items)) }
 {
-    let mut ops = Vec::new(alloc);
+    let mut ops = Vec::with_capacity(alloc, order.len().saturating_add(1))?;
     for key in order {
         write_found(alloc, accounts, &mut ops, *key, slots.find(key))?;
     }

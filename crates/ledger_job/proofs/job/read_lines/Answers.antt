@@ -7,10 +7,10 @@ use Rattle.ledger_job.proofs.job.read_lines.Goals as goal
 pub each-init : goal.each-init
 unfolding section_after has_limits
 each-init c = record {
-  read = rw (c.new-kept.ensures.items, c.deref-bytes-items.ensures.value) (ap (map line_of) c.in_ok-lines.ensures);
-  right = rw (c.new-kept.ensures.items, c.deref-bytes-items.ensures.value) (at_start (read_lines c.args.text.now) ∙ ap (λ l. moved 0 (first_offence [] l)) (sym (ap (map line_of) c.in_ok-lines.ensures)));
-  section = rw c.new-kept.ensures.items refl;
-  limited = rw c.new-kept.ensures.items refl;
+  read = rw (c.in_ok-kept.ensures.items, c.deref-bytes-items.ensures.value) (ap (map line_of) c.in_ok-lines.ensures);
+  right = rw (c.in_ok-kept.ensures.items, c.deref-bytes-items.ensures.value) (at_start (read_lines c.args.text.now) ∙ ap (λ l. moved 0 (first_offence [] l)) (sym (ap (map line_of) c.in_ok-lines.ensures)));
+  section = rw c.in_ok-kept.ensures.items refl;
+  limited = rw c.in_ok-kept.ensures.items refl;
 }
 
 pub returns-in_default-clause-bad : goal.returns-in_default-clause-bad
