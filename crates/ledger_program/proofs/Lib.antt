@@ -1,5 +1,6 @@
 pub mod Causes
 pub mod Sessions
+pub mod Validity
 pub mod Fronts
 pub mod Names
 pub mod Lines

@@ -1,5 +1,5 @@
 -- What following a log over a link gives, and why it fails.
-use Rattle.std.specs.Prelude.{◌≡◌, ℕ, ◌-◌, false, List, [], Option, Some, Result, Ok, Err, ⊤}
+use Rattle.std.specs.Prelude.{◌≡◌, ℕ, ◌≤◌, ◌+◌, ◌-◌, ◌^◌, All, length, false, List, [], Option, Some, Result, Ok, Err, ⊤}
 use Rattle.sha2.specs.Sha256.{sha256}
 use Rattle.ledger_log.specs.View.{LogView, log_range, log_peaks_at}
 use Rattle.ledger_job.specs.declared.block.Block.{Block}
@@ -10,9 +10,11 @@ use Rattle.ledger_log.specs.declared.target.Target.{Target}
 use Rattle.ledger_merkle.specs.declared.proof.Part.{Part as Fetched}
 use Rattle.ledger_program.specs.declared.fault.Fault.{Fault}
 use Rattle.ledger_program.specs.declared.fault.Fault.TheVariants.{Network, RequestChannelClosed, InvalidResponse, UnexpectedResponse, Server, InvalidProof, TooManyStrays, WrongRoot, BadLog, BadValue, Rejected, Full, OutOfMemory}
-use Rattle.ledger_settling.specs.Blocks.{Meaning}
+use Rattle.ledger_job.specs.declared.block.BlockVerdicts.{BlockVerdicts}
+use Rattle.ledger_settling.specs.Blocks.{Meaning, IsReadable, RunsTo}
 use Rattle.ledger_settling.specs.Faults.{RunFails}
-use Rattle.ledger_settling.specs.Reports.{ReportOf}
+use Rattle.ledger_settling.specs.Reports.{ReportOf, IsWhole}
+use Rattle.ledger_transfers.specs.Touches.{max_amount}
 use Rattle.ledger_settling.specs.declared.fault.ReportFault.{ReportFault}
 use Rattle.ledger_settling.specs.declared.fault.ReportFault.TheVariants as causes
 use Rattle.ledger_settling.specs.declared.report.Report.{Report}
@@ -107,6 +109,20 @@ module _ {T A E : Type 0} (m : Meaning T A E) where
   FollowsLog log target blocks (Err Network) = ⊤
   FollowsLog log target blocks (Err OutOfMemory) = ⊤
   FollowsLog log target blocks (Err fault) = ⊥
+
+-- balances are of 64 bits: of each account that a value spells, and of the one that a key without a value opens with
+pub record AreAmounts {T A E : Type 0} (m : Meaning T A E) : Type 0 where
+  pub read : (value : List ℕ) (account : A) → m.values.read value ≡ Some account → m.rules.balance_of account ≤ max_amount
+  pub initial : m.rules.balance_of m.rules.initial ≤ max_amount
+
+-- The input is valid over this log: the target's range ends in a commit of its own, each value in it is an account, and the blocks settle, one after another, with room for what they append.
+pub record IsValid {T A E : Type 0} (m : Meaning T A E) (log : LogView AnyOp) (target : Target) (blocks : List (Block T)) : Type 0 where
+  pub whole : IsWhole target.start (range_in log target)
+  pub readable : All (IsReadable m.values) (range_in log target)
+  pub verdicts : List BlockVerdicts
+  pub all : List AnyOp
+  pub runs : RunsTo m (range_in log target) blocks verdicts all
+  pub room : target.start + length all ≤ 2 ^ 62
 
 -- each answer but Network and want of memory leaves the link's count
 abbrev pub LeavesCount : {X : Type 0} → Result X Fault → ℕ → ℕ → Type 0

@@ -3,6 +3,7 @@ use Rattle.ledger_program.specs.Follow.{idle, beginning, FollowFails, FollowsLog
 use Rattle.ledger_settling.specs.Blocks.{meaning}
 use Rattle.sync_client.proofs.SentOperations.{any_sent}
 use Rattle.ledger_program.proofs.Sessions.{may_stop_from, stopped_from, no_report_from, begins_so, session_served, report_served}
+use Rattle.ledger_program.proofs.Validity.{only_memory}
 use Rattle.ledger_program.proofs.following.follow.Goals as goal
 
 pub sync_fault-requires : goal.sync_fault-requires
@@ -47,3 +48,17 @@ returns-in-Ok-report_of-clause-serving g c held h told =
     let e = c.new-machine.ensures ∙ ap idle c.new.ensures in
     let own = c.in-Ok.ensures.serving held any_sent h (begins_so held c.new-machine.result _ e told) in
     (c.in-Ok-report_of.ensures.kept ∙ own.ops, c.in-Ok-report_of.ensures.pinned ∙ own.pinned)
+
+pub returns-in-Err-clause-complete : goal.returns-in-Err-clause-complete
+returns-in-Err-clause-complete g c held h told amounts valid still =
+    let m = meaning g.T.Transfer.changes_of g.A.PartialEq.eq g.A.Account.rules g.A.AccountValue.values in
+    let o = beginning c.args.target.now c.args.limits.now (g.L.Link.wire c.args.link.now) (g.L.Link.faults c.args.link.now) in
+    only_memory m h.log c.args.target.now c.args.blocks.now o (g.L.Link.wire c.sync_full.new.link) (g.L.Link.faults c.sync_full.new.link) c.sync_fault.result amounts valid still
+    (returns-in-Err-clause-serving g c held h told) (returns-in-Err-clause-fails g c)
+
+pub returns-clause-complete : goal.returns-clause-complete
+returns-clause-complete g c held h told amounts valid still =
+    let m = meaning g.T.Transfer.changes_of g.A.PartialEq.eq g.A.Account.rules g.A.AccountValue.values in
+    let o = beginning c.args.target.now c.args.limits.now (g.L.Link.wire c.args.link.now) (g.L.Link.faults c.args.link.now) in
+    only_memory m h.log c.args.target.now c.args.blocks.now o (g.L.Link.wire c.sync_full.new.link) (g.L.Link.faults c.sync_full.new.link) c.from.result amounts valid still
+    (returns-clause-serving g c held h told) (returns-clause-fails g c)

@@ -1,0 +1,122 @@
+-- Valid input over a link that serves it is followed, or memory is wanting.
+use Rattle.std.proofs.Common.{◌≡◌, ℕ, zero, suc, ◌≤◌, List, [], ◌∷◌, length, take, Option, Some, None, Err, refl, sym, ap, subst, ◌∙◌, arith, true≢false}
+use Rattle.std.specs.Prelude.{slice_get, is_some, unwrap_or, option_and_then}
+use Rattle.std.proofs.lemmas.List.{length-append}
+use Rattle.ledger_codec.specs.Causes.{Rose}
+use Rattle.ledger_job.specs.declared.block.Block.{Block}
+use Rattle.ledger_job.specs.declared.block.Block.TheVariants.{Body}
+use Rattle.ledger_job.specs.declared.block.BlockVerdicts.{BlockVerdicts}
+use Rattle.ledger_job.specs.declared.block.BlockVerdicts.TheVariants.{Body as NoVerdicts, Rounds as Verdicts}
+use Rattle.ledger_log.specs.Any.{any_write}
+use Rattle.ledger_log.specs.View.{LogView, value_at}
+use Rattle.ledger_log.specs.declared.any.AnyOp.{AnyOp}
+use Rattle.ledger_log.specs.declared.any.AnyOp.TheVariants.{Update}
+use Rattle.ledger_log.specs.declared.target.Target.{Target}
+use Rattle.ledger_program.specs.Follow.{FollowFails, FollowsLog, AreAmounts, IsValid, range_in}
+use Rattle.ledger_program.specs.declared.fault.Fault.{Fault}
+use Rattle.ledger_program.specs.declared.fault.Fault.TheVariants as faults
+use Rattle.ledger_settling.proofs.CauseLemmas.{one_batch, settled_or_offends}
+use Rattle.ledger_settling.specs.Blocks.{Meaning, IsReadable, IsSettled, IsOffence, Settles, RunsTo, batch_of, grown, appended, opening}
+use Rattle.ledger_settling.specs.Faults.{IsUnreadable}
+use Rattle.ledger_transfers.specs.Settling.{opened}
+use Rattle.ledger_transfers.specs.Touches.{touches, max_amount}
+use Rattle.ledger_transfers.specs.declared.fault.Rejection.{Rejection}
+use Rattle.sync_client.proofs.Insides.{All-at}
+use Rattle.sync_client.specs.Ending.{Origin}
+use Rattle.sync_net.specs.Wire.{Wire}
+
+some_is : {X : Type 0} (x y : X) → Some x ≡ Some y → x ≡ y
+some_is x y h = ap (λ o. unwrap_or o x) h
+
+module _ {T A E : Type 0} (m : Meaning T A E) where
+  -- ---- no block is rejected
+
+  opens_with : AreAmounts m → (o : Option A) → ((a : A) → o ≡ Some a → m.rules.balance_of a ≤ max_amount) → m.rules.balance_of (opened m.rules o) ≤ max_amount
+  opens_with h None each = h.initial
+  opens_with h (Some a) each = each a refl
+
+  read_from : AreAmounts m → (v : Option (List ℕ)) → m.rules.balance_of (opened m.rules (option_and_then m.values.read v)) ≤ max_amount
+  read_from h None = h.initial
+  read_from h (Some v) = opens_with h (m.values.read v) (λ a e. h.read v a e)
+
+  amounts : AreAmounts m → (ops : List AnyOp) (k : List ℕ) → m.rules.balance_of (opening m ops k) ≤ max_amount
+  amounts h ops k = read_from h (value_at any_write k ops)
+
+  body_settled : (ops : List AnyOp) (batch : List T) (v : BlockVerdicts) → Settles m ops (Body batch) v → IsSettled m ops batch
+  body_settled ops batch NoVerdicts s = s
+  body_settled ops batch (Verdicts vs) s = absurd s
+
+  none_rejected : AreAmounts m → (bs : List (Block T)) (vs : List BlockVerdicts) (ops all : List AnyOp) → RunsTo m ops bs vs all
+      → (i : ℕ) (ws : List BlockVerdicts) (there : List AnyOp) (batch : List T) (r : Rejection (List ℕ)) → RunsTo m ops (take i bs) ws there → slice_get bs i ≡ Some (Body batch) → IsOffence m there batch r → ⊥
+  none_rejected h [] vs ops all runs i ws there batch r before at o = absurd (true≢false (sym (ap is_some at)))
+  none_rejected h (b ∷ bs) [] ops all runs i ws there batch r before at o = absurd runs
+  none_rejected h (b ∷ bs) (v ∷ vs) ops all runs zero [] there batch r before at o =
+      let is : b ≡ Body batch = some_is b (Body batch) at in
+      settled_or_offends m ops batch r (amounts h ops) (body_settled ops batch v (subst (λ c. Settles m ops c v) is runs.0)) (subst (λ us. IsOffence m us batch r) before o)
+  none_rejected h (b ∷ bs) (v ∷ vs) ops all runs zero (w ∷ ws) there batch r before at o = absurd before
+  none_rejected h (b ∷ bs) (v ∷ vs) ops all runs (suc i) [] there batch r before at o = absurd before
+  none_rejected h (b ∷ bs) (v ∷ vs) ops all runs (suc i) (w ∷ ws) there batch r before at o =
+      let same = one_batch m ops b w v before.0 runs.0 in
+      none_rejected h bs vs (grown m ops (batch_of b v)) all runs.1 i ws there batch r (subst (λ us. RunsTo m (grown m ops us) (take i bs) ws there) same before.1) at o
+
+  -- ---- no block makes the log too long
+
+  grows : (ops : List AnyOp) (batch : List T) → length ops ≤ length (grown m ops batch)
+  grows ops batch = let e = length-append ops (appended m.same m.rules m.values ops (touches m.changes_of batch)) in omega arith
+
+  runs_on : (bs : List (Block T)) (vs : List BlockVerdicts) (ops all : List AnyOp) → RunsTo m ops bs vs all → length ops ≤ length all
+  runs_on [] [] ops all e = let n = ap length e in omega arith
+  runs_on [] (v ∷ vs) ops all e = absurd e
+  runs_on (b ∷ bs) [] ops all e = absurd e
+  runs_on (b ∷ bs) (v ∷ vs) ops all e = let n = grows ops (batch_of b v) in let k = runs_on bs vs (grown m ops (batch_of b v)) all e.1 in omega arith
+
+  none_long : (bs : List (Block T)) (vs : List BlockVerdicts) (ops all : List AnyOp) → RunsTo m ops bs vs all
+      → (i : ℕ) (ws : List BlockVerdicts) (there : List AnyOp) (block : Block T) (v : BlockVerdicts) → RunsTo m ops (take i bs) ws there → slice_get bs i ≡ Some block → Settles m there block v → length (grown m there (batch_of block v)) ≤ length all
+  none_long [] vs ops all runs i ws there block v before at s = absurd (true≢false (sym (ap is_some at)))
+  none_long (b ∷ bs) [] ops all runs i ws there block v before at s = absurd runs
+  none_long (b ∷ bs) (u ∷ vs) ops all runs zero [] there block v before at s =
+      let is : b ≡ block = some_is b block at in
+      let here : Settles m ops b v = subst (λ c. Settles m ops c v) (sym is) (subst (λ us. Settles m us block v) before s) in
+      let same : batch_of b v ≡ batch_of b u = one_batch m ops b v u here runs.0 in
+      let k = runs_on bs vs (grown m ops (batch_of b u)) all runs.1 in
+      let e : length (grown m there (batch_of block v)) ≡ length (grown m ops (batch_of b u)) =
+      ap (λ us. length (grown m us (batch_of block v))) before ∙ (ap (λ c. length (grown m ops (batch_of c v))) (sym is) ∙ ap (λ us. length (grown m ops us)) same) in
+      omega arith
+  none_long (b ∷ bs) (u ∷ vs) ops all runs zero (w ∷ ws) there block v before at s = absurd before
+  none_long (b ∷ bs) (u ∷ vs) ops all runs (suc i) [] there block v before at s = absurd before
+  none_long (b ∷ bs) (u ∷ vs) ops all runs (suc i) (w ∷ ws) there block v before at s =
+      let same = one_batch m ops b w u before.0 runs.0 in
+      none_long bs vs (grown m ops (batch_of b u)) all runs.1 i ws there block v (subst (λ us. RunsTo m (grown m ops us) (take i bs) ws there) same before.1) at s
+
+  -- ---- each value is an account
+
+  unread : (op : AnyOp) → IsReadable m.values op → IsUnreadable m.values op → ⊥
+  unread op r u =
+      let here : IsReadable m.values (Update u.key u.value) = subst (IsReadable m.values) u.is r in
+      absurd (true≢false (sym here ∙ ap is_some u.unreadable))
+
+  -- ---- the whole call
+
+  -- a fault over valid input is want of memory
+  pub only_memory : (log : LogView AnyOp) (target : Target) (blocks : List (Block T)) (o : Origin AnyOp) (wire : Option Wire) (risen : ℕ) (fault : Fault) → AreAmounts m → IsValid m log target blocks → (Rose o.count risen → ⊥)
+      → FollowsLog m log target blocks (Err fault) → FollowFails m o wire risen blocks fault → fault ≡ faults.OutOfMemory
+  only_memory log target blocks o wire risen faults.Network h valid still served fails = absurd (still (let lt = fails.stopped.0 in omega arith))
+  only_memory log target blocks o wire risen faults.RequestChannelClosed h valid still served fails = absurd served
+  only_memory log target blocks o wire risen faults.InvalidResponse h valid still served fails = absurd served
+  only_memory log target blocks o wire risen (faults.UnexpectedResponse number) h valid still served fails = absurd served
+  only_memory log target blocks o wire risen (faults.Server code text) h valid still served fails = absurd served
+  only_memory log target blocks o wire risen (faults.InvalidProof number) h valid still served fails = absurd served
+  only_memory log target blocks o wire risen faults.TooManyStrays h valid still served fails = absurd served
+  only_memory log target blocks o wire risen (faults.WrongRoot found) h valid still served fails = absurd served
+  only_memory log target blocks o wire risen (faults.BadLog location) h valid still served fails = absurd (served.1 valid.whole)
+  only_memory log target blocks o wire risen (faults.BadValue location) h valid still served fails =
+      let bad = served.1 in
+      absurd (unread bad.op (All-at (IsReadable m.values) (range_in log target) bad.place bad.op bad.at valid.readable) bad.unreadable)
+  only_memory log target blocks o wire risen (faults.Rejected block rejection) h valid still served fails =
+      let f = served.2 in
+      absurd (none_rejected h blocks valid.verdicts (range_in log target) valid.all valid.runs block f.verdicts f.all f.batch rejection f.before f.at f.offence)
+  only_memory log target blocks o wire risen (faults.Full block) h valid still served fails =
+      let f = served.2 in
+      let k = none_long blocks valid.verdicts (range_in log target) valid.all valid.runs block f.verdicts f.all f.block f.verdict f.before f.at f.settles in
+      absurd (let l = f.long in let r = valid.room in omega arith)
+  only_memory log target blocks o wire risen faults.OutOfMemory h valid still served fails = refl
