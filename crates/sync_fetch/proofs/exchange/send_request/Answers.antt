@@ -1,0 +1,16 @@
+use Rattle.std.proofs.Common.{◌∙◌, ap, ℕ, List, Err, Result}
+use Rattle.std.specs.Prelude.{option_map}
+use Rattle.sync_net.specs.Wire.{with_sent}
+use Rattle.sync_net.specs.declared.link.LinkError.{LinkError}
+use Rattle.sync_fetch.proofs.exchange.send_request.Goals as goal
+
+abbrev failure : LinkError → Result (Unit {0}) LinkError
+failure x = Err x
+
+pub returns-in-Ok-send-clause-sends : goal.returns-in-Ok-send-clause-sends
+returns-in-Ok-send-clause-sends g c =
+    (c.in-Ok.submitted, c.in-Ok.is, c.in-Ok-send.ensures.wire_now ∙ ap (λ (b : List ℕ). option_map (with_sent b) (g.L.Link.wire c.args.link.now)) c.deref.ensures.value, c.in-Ok-send.ensures.cause.later)
+
+pub returns-in-Err-Failed-clause-sends : goal.returns-in-Err-Failed-clause-sends
+returns-in-Err-Failed-clause-sends g c =
+    (c.in-Ok.submitted, c.in-Ok.is, c.in-Err-Failed.ensures.wire_now, c.in-Err-Failed.ensures.cause.failed (ap (λ (x : LinkError). failure x) c.in-Err-Failed.field-0-is))

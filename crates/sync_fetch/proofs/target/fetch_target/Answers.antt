@@ -1,0 +1,21 @@
+use Rattle.std.proofs.Common.{refl, subst}
+use Rattle.sync_net.specs.declared.ask.Ask.TheVariants as asks
+use Rattle.sync_net.specs.declared.message.Message.{Message}
+use Rattle.sync_fetch.specs.Told.{FetchCame}
+use Rattle.sync_fetch.proofs.Fetched.{fetch_stops, fetch_came, is_target}
+use Rattle.sync_fetch.proofs.target.fetch_target.Goals as goal
+
+pub returns-in-Err-await_reply-clause-fetched : goal.returns-in-Err-await_reply-clause-fetched
+returns-in-Err-await_reply-clause-fetched g c =
+    fetch_stops g.Op.Spell.reading g.Op.Spell.written asks.SyncTarget c.args.machine.now c.submit_sync_target-made.new.self c.await_reply.new.machine c.submit_sync_target-made.result c.in-Ok.field-0 (g.L.Link.wire c.args.link.now) (g.L.Link.wire c.send_request.new.link) (g.L.Link.wire c.await_reply.new.link) (g.L.Link.faults c.args.link.now) (g.L.Link.faults c.send_request.new.link) (g.L.Link.faults c.await_reply.new.link) c.in-Err-await_reply.fault c.requires c.submit_sync_target-made.ensures c.in-Ok.ensures.sends c.in-Err-await_reply.ensures.awaits
+
+pub unreachable-requires : goal.unreachable-requires
+unreachable-requires g c =
+    let f = fetch_came g.Op.Spell.reading g.Op.Spell.written asks.SyncTarget c.args.machine.now c.submit_sync_target-made.new.self c.await_reply.new.machine c.submit_sync_target-made.result c.in-Ok.field-0 (g.L.Link.wire c.args.link.now) (g.L.Link.wire c.send_request.new.link) (g.L.Link.wire c.await_reply.new.link) (g.L.Link.faults c.args.link.now) (g.L.Link.faults c.send_request.new.link) (g.L.Link.faults c.await_reply.new.link) c.in-Ok-await_reply.message c.requires c.submit_sync_target-made.ensures c.in-Ok.ensures.sends c.in-Ok-await_reply.ensures.awaits in
+    let k = is_target c.in-Ok-await_reply.message f.3.kind in
+    c.in_default.not-GetSyncTargetResponse k.0 k.1
+
+pub returns-clause-fetched : goal.returns-clause-fetched
+returns-clause-fetched g c =
+    let f = fetch_came g.Op.Spell.reading g.Op.Spell.written asks.SyncTarget c.args.machine.now c.submit_sync_target-made.new.self c.await_reply.new.machine c.submit_sync_target-made.result c.in-Ok.field-0 (g.L.Link.wire c.args.link.now) (g.L.Link.wire c.send_request.new.link) (g.L.Link.wire c.await_reply.new.link) (g.L.Link.faults c.args.link.now) (g.L.Link.faults c.send_request.new.link) (g.L.Link.faults c.await_reply.new.link) c.in-Ok-await_reply.message c.requires c.submit_sync_target-made.ensures c.in-Ok.ensures.sends c.in-Ok-await_reply.ensures.awaits in
+    (c.in-GetSyncTargetResponse.answer, refl, subst (λ (x : Message g.row.Op.Denot). FetchCame g.Op.Spell.reading g.Op.Spell.written asks.SyncTarget x c.args.machine.now c.await_reply.new.machine (g.L.Link.wire c.args.link.now) (g.L.Link.wire c.await_reply.new.link)) c.in-GetSyncTargetResponse.is f)

@@ -1,0 +1,130 @@
+//! One request over a link, and its answer.
+ghost use Rattle.std.specs.Prelude.{◌≡◌, ◌<◌, ◌∷◌, [], length, IsTrue, false};
+ghost use Rattle.sync_client.specs.Counts.{CountKept, NeverNetwork};
+ghost use Rattle.sync_net.specs.declared.ask.Pending.{Pending as PendingValue};
+ghost use Rattle.sync_client.specs.Turns.{Receives};
+ghost use Rattle.sync_fetch.specs.Told.{HeldAnswer, NextAnswer, Awaits, Sends};
+
+use ledger_codec::Spell;
+use sync_client::{MAX_STRAYS, SyncFault};
+use sync_net::{Answer, Link, LinkError, Machine, MachineFault, Message, SubmitRefusal, Submitted};
+
+/// How many bytes are asked of the link at once.
+const BUFFER_SIZE: usize = 4096;
+
+/// Sends the frame of a request that was made.
+pub(crate) fn send_request<L: Link>(
+    made: Result<Submitted, SubmitRefusal>,
+    link: &mut L,
+) -> Result<(), SyncFault>
+    ensures exact { IsTrue L.exact → CountKept result (L.faults link.old) (L.faults link.new) }
+    ensures steady { L.steady link.old → L.steady link.new × NeverNetwork result (L.faults link.old) (L.faults link.new) }
+    ensures sends { Sends result made (L.wire link.old) (L.wire link.new) (L.faults link.old) (L.faults link.new) }
+{
+    let frame = match made {
+        Ok(submitted) => submitted.frame,
+        Err(SubmitRefusal::Closed) => return Err(SyncFault::Closed),
+        Err(SubmitRefusal::Exhausted) => return Err(SyncFault::Exhausted),
+        Err(SubmitRefusal::OutOfMemory) => return Err(SyncFault::OutOfMemory),
+    };
+    match link.send(&frame) {
+        Ok(()) => Ok(()),
+        Err(LinkError::Failed) => Err(SyncFault::Network),
+        Err(LinkError::OutOfMemory) => Err(SyncFault::OutOfMemory),
+    }
+}
+
+/// The answer that the next whole frame is, None where none is held.
+fn answer_held<Op: Spell>(machine: &mut Machine<Op>) -> Result<Option<Answer<Op>>, SyncFault>
+    ensures { HeldAnswer result Op.reading machine.old machine.new }
+{
+    match machine.next_answer() {
+        Ok(found) => Ok(found),
+        Err(MachineFault::InvalidResponse) => Err(SyncFault::InvalidResponse),
+        Err(MachineFault::UnexpectedResponse { request_id }) => {
+            Err(SyncFault::UnexpectedResponse { request_id })
+        }
+        Err(MachineFault::Server { code, message }) => Err(SyncFault::Server { code, message }),
+        Err(MachineFault::RequestChannelClosed) => Err(SyncFault::RequestChannelClosed),
+        Err(MachineFault::Closed) => Err(SyncFault::Closed),
+        Err(MachineFault::OutOfMemory) => Err(SyncFault::OutOfMemory),
+    }
+}
+
+/// Receives the next bytes. Their end closes the machine.
+fn receive<Op: Spell, L: Link>(
+    machine: &mut Machine<Op>,
+    link: &mut L,
+    buffer: &mut [u8],
+) -> Result<(), SyncFault>
+    requires room { 0 < length buffer.old }
+    requires live { machine.old.closed ≡ false }
+    ensures exact { IsTrue L.exact → CountKept result (L.faults link.old) (L.faults link.new) }
+    ensures steady { L.steady link.old → L.steady link.new × NeverNetwork result (L.faults link.old) (L.faults link.new) }
+    ensures receives { Receives result machine.old machine.new (L.wire link.old) (L.wire link.new) (L.faults link.old) (L.faults link.new) }
+{
+    match link.recv(buffer) {
+        Ok(0) => {
+            let _ended = machine.end();
+            Err(SyncFault::RequestChannelClosed)
+        }
+        Ok(count) => match machine.feed(&buffer[..count]) {
+            Ok(()) => Ok(()),
+            Err(MachineFault::OutOfMemory) => Err(SyncFault::OutOfMemory),
+            Err(_) => unreachable!(),
+        },
+        Err(LinkError::Failed) => Err(SyncFault::Network),
+        Err(LinkError::OutOfMemory) => Err(SyncFault::OutOfMemory),
+    }
+}
+
+/// The next answer, received as far as it isn't held.
+fn next_answer<Op: Spell, L: Link>(
+    machine: &mut Machine<Op>,
+    link: &mut L,
+    buffer: &mut [u8],
+) -> Result<Answer<Op>, SyncFault>
+    requires room { 0 < length buffer.old }
+    requires live { machine.old.closed ≡ false }
+    ensures exact { IsTrue L.exact → CountKept result (L.faults link.old) (L.faults link.new) }
+    ensures steady { L.steady link.old → L.steady link.new × NeverNetwork result (L.faults link.old) (L.faults link.new) }
+    ensures answers { NextAnswer result Op.reading machine.old machine.new (L.wire link.old) (L.wire link.new) (L.faults link.old) (L.faults link.new) }
+{
+    loop {
+        match answer_held(machine) {
+            Ok(Some(answer)) => return Ok(answer),
+            Ok(None) => {}
+            Err(fault) => return Err(fault),
+        }
+        match receive(machine, link, buffer) {
+            Ok(()) => {}
+            Err(fault) => return Err(fault),
+        }
+    }
+}
+
+/// The message that answers the one pending request.
+pub(crate) fn await_reply<Op: Spell, L: Link>(
+    machine: &mut Machine<Op>,
+    link: &mut L,
+) -> Result<Message<Op>, SyncFault>
+    requires live { machine.old.closed ≡ false }
+    ensures exact { IsTrue L.exact → CountKept result (L.faults link.old) (L.faults link.new) }
+    ensures steady { L.steady link.old → L.steady link.new × NeverNetwork result (L.faults link.old) (L.faults link.new) }
+    ensures awaits { (p : PendingValue) → machine.old.pending ≡ p ∷ [] → Awaits result Op.reading p machine.old machine.new (L.wire link.old) (L.wire link.new) (L.faults link.old) (L.faults link.new) }
+{
+    let mut buffer = [0; BUFFER_SIZE];
+    let mut strays = 0;
+    loop {
+        match next_answer(machine, link, &mut buffer) {
+            Ok(Answer::Reply { message, .. }) => return Ok(message),
+            Ok(Answer::Stray { .. }) => {
+                if strays >= MAX_STRAYS {
+                    return Err(SyncFault::TooManyStrays);
+                }
+                strays += 1;
+            }
+            Err(fault) => return Err(fault),
+        }
+    }
+}

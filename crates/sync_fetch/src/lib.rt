@@ -1,0 +1,19 @@
+//! Asking a peer what there is to sync to.
+//!
+//! ```text
+//! a request --Machine::submit_*--> frame --Link::send--> the peer
+//!                                                            |
+//! its answer <--Machine::next_answer-- bytes <--Link::recv---+
+//! ```
+//!
+//! One request is sent, and frames are taken until one holds the message under its number. Messages under
+//! other numbers are strays, and only so many are let through. The answer isn't proved by anything: what is
+//! fetched afterwards is proved against it.
+#![tactic(auto)]
+
+mod exchange;
+mod target;
+#[cfg(test)]
+mod tests;
+
+pub use target::{fetch_compact_target, fetch_target};
