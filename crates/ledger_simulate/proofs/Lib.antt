@@ -1,4 +1,5 @@
 pub mod Beginning
+pub mod Causing
 pub mod Each
 pub mod Ends
 pub mod Engines

@@ -148,3 +148,11 @@ module _ {D E S : Type 0} (peer_of : E → Peer) (journal : Option (E → List (
 
   pub handles_recover : (key : ℕ × ℕ) (event : Event) (pk : Peer) (a b : AgendaView) (us : List FinalizationUpdate) (u v : World D E S) → event ≡ Recover pk → Stirs peer_of a b u v → Handles peer_of journal reports key event a b us us u v
   handles_recover key event pk a b us u v is stirs = subst (λ e. Handles peer_of journal reports key e a b us us u v) (sym is) (refl, stirs)
+
+  -- seats that are in order before the first event is taken off
+  pub seated_begun : (before rest : QueueView) (entry : (ℕ × ℕ) × Event) (start : AgendaView) (u : World D E S) → before ≡ record rest { entries = entry ∷ rest.entries } → start ≡ empty_agenda rest.next → Seated peer_of before.next u.seats.entries → Seated peer_of (number_after start) u.seats.entries
+  seated_begun before rest entry start u taken nothing seated =
+      let same : before.next ≡ rest.next = ap (λ (q : QueueView). q.next) taken in
+      let begun : number_after start ≡ rest.next + 0 = ap number_after nothing in
+      let up : before.next ≤ number_after start = omega arith in
+      seated_up peer_of before.next (number_after start) u.seats.entries up seated

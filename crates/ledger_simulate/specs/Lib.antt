@@ -1,3 +1,4 @@
+pub mod Causes
 pub mod Exercise
 pub mod Handling
 pub mod Links

@@ -8,6 +8,8 @@ use Rattle.simulate_parts.specs.declared.tracker.ObserveFault.{ObserveFault}
 use Rattle.simulate_parts.specs.declared.tracker.ObserveFault.TheVariants.{OutOfMemory as observe_memory, Height, Round}
 use Rattle.ledger_simulate.specs.declared.fault.PlanFault.{PlanFault}
 use Rattle.ledger_simulate.specs.declared.fault.PlanFault.TheVariants.{EventLimit, Exit, FinalizationProperty, Fork, Idle, NotExercised, Property, SkippedWindow, Timeout}
+use Rattle.ledger_simulate.specs.declared.result.SimEnd.{SimEnd}
+use Rattle.ledger_simulate.specs.declared.result.SimEnd.TheVariants.{Fault as at_fault, OutOfMemory as at_memory}
 use Rattle.ledger_simulate.specs.declared.fault.Stop.{Stop}
 use Rattle.ledger_simulate.specs.declared.fault.Stop.TheVariants.{Fault, OutOfMemory}
 
@@ -61,3 +63,8 @@ is_late (NotExercised index) = true
 abbrev pub stops_late : Stop → Bool
 stops_late (Fault fault) = is_late fault
 stops_late OutOfMemory = true
+
+-- the end of a run under these limits by a stop
+abbrev pub end_of : Stop → ℕ → ℕ → ℕ → Option ℕ → SimEnd
+end_of (Fault fault) seed handled max_events timeout = at_fault (record { fault = fault; seed = seed; handled = handled; max_events = max_events; timeout = timeout })
+end_of OutOfMemory seed handled max_events timeout = at_memory

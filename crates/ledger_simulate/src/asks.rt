@@ -1,6 +1,7 @@
 //! Asking the checks of a plan.
 ghost use Rattle.std.specs.Prelude.{◌≡◌, All, IfErr, IfOk, IsTrue, MatchOption, None, Ok, OnOk};
 ghost use Rattle.simulate_parts.specs.Checks.{reached_by_all};
+ghost use Rattle.ledger_simulate.specs.Causes.{stops_asked};
 ghost use Rattle.ledger_simulate.specs.Stops.{IsExitFault, IsFinalizationFault, IsPropertyFault, stops_late};
 
 use crate::fault::{PlanFault, Stop};
@@ -28,6 +29,7 @@ fn check_property(
 ) -> Result<(), Stop>
     ensures ok { OnOk result (property_complaint property.now tracker.now states.now ≡ None) }
     ensures err { IfErr result (IsPropertyFault (property_name property.now) (property_complaint property.now tracker.now states.now)) }
+    ensures asked { IfErr result (λ s. IsTrue (stops_asked s)) }
     ensures late { IfErr result (λ s. IsTrue (stops_late s)) }
 {
     match property.check(tracker, states) {
@@ -48,6 +50,7 @@ pub fn check_properties(
     states: &[StateView],
 ) -> Result<(), Stop>
     ensures ok { OnOk result (All (λ p. property_complaint p tracker.now states.now ≡ None) properties.now) }
+    ensures asked { IfErr result (λ s. IsTrue (stops_asked s)) }
     ensures late { IfErr result (λ s. IsTrue (stops_late s)) }
 {
     for property in properties {
@@ -67,6 +70,7 @@ fn check_finalization(
 ) -> Result<(), Stop>
     ensures ok { OnOk result (finalization_complaint property.now states.now ≡ None) }
     ensures err { IfErr result (IsFinalizationFault (finalization_name property.now) (finalization_complaint property.now states.now)) }
+    ensures asked { IfErr result (λ s. IsTrue (stops_asked s)) }
     ensures late { IfErr result (λ s. IsTrue (stops_late s)) }
 {
     match property.check(states) {
@@ -86,6 +90,7 @@ pub fn check_finalizations(
     states: &[StateView],
 ) -> Result<(), Stop>
     ensures ok { OnOk result (All (λ p. finalization_complaint p states.now ≡ None) properties.now) }
+    ensures asked { IfErr result (λ s. IsTrue (stops_asked s)) }
     ensures late { IfErr result (λ s. IsTrue (stops_late s)) }
 {
     for property in properties {
@@ -107,6 +112,7 @@ fn ask_condition(
 ) -> Result<bool, Stop>
     ensures ok { IfOk result (λ reached. exit_verdict condition.now tracker.now states.now target_count ≡ Ok reached) }
     ensures err { IfErr result (IsExitFault (exit_name condition.now) (exit_verdict condition.now tracker.now states.now target_count)) }
+    ensures asked { IfErr result (λ s. IsTrue (stops_asked s)) }
     ensures late { IfErr result (λ s. IsTrue (stops_late s)) }
 {
     match condition.reached(tracker, states, target_count) {
@@ -129,6 +135,7 @@ pub fn ask_exit<D: EngineDefinition>(
     target_count: usize,
 ) -> Result<bool, Stop>
     ensures ok { IfOk result (λ reached. MatchOption plan.now.exit_condition (reached ≡ reached_by_all tracker.now target_count plan.now.required_finalizations) (λ c. exit_verdict c tracker.now states.now target_count ≡ Ok reached)) }
+    ensures asked { IfErr result (λ s. IsTrue (stops_asked s)) }
     ensures late { IfErr result (λ s. IsTrue (stops_late s)) }
 {
     match &plan.exit_condition {

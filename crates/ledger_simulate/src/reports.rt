@@ -1,6 +1,7 @@
 //! What the reports of a step set off.
-ghost use Rattle.std.specs.Prelude.{◌≡◌, ◌++◌, ◌∷◌, [], IfErr, IfOk, IfSome, IsTrue, OnOk};
+ghost use Rattle.std.specs.Prelude.{◌≡◌, ◌++◌, ◌∷◌, [], Contains, IfErr, IfOk, IfSome, IsTrue, OnOk};
 ghost use Rattle.simulate_parts.specs.Engine.{updates_of};
+ghost use Rattle.ledger_simulate.specs.Causes.{StopComes, stops_asked};
 ghost use Rattle.ledger_simulate.specs.Handling.{Disturbs};
 ghost use Rattle.ledger_simulate.specs.Plans.{target_count};
 ghost use Rattle.ledger_simulate.specs.Reaching.{IsReached};
@@ -56,6 +57,7 @@ pub fn ask<D: EngineDefinition>(
     states: Vec<StateView>,
 ) -> Result<Option<Reached>, Stop>
     ensures reached { IfOk result (λ o. IfSome o (λ r. IsReached (λ c. exit_verdict c) plan.now.exit_condition plan.now.required_finalizations (target_count plan.now.participants plan.now.crashes world.now.exercise.delayed_started) watch.now r)) }
+    ensures asked { IfErr result (λ s. IsTrue (stops_asked s)) }
     ensures late { IfErr result (λ s. IsTrue (stops_late s)) }
 {
     match ask_exit(
@@ -91,6 +93,7 @@ fn take_report<D: EngineDefinition>(
     ensures disturbs { OnOk result (Disturbs (D.peer_of plan.now.engine) agenda.old agenda.new world.old world.new) }
     ensures updates { OnOk result (watch.new ≡ watch.old ++ update ∷ []) }
     ensures reached { IfOk result (λ o. IfSome o (λ r. IsReached (λ c. exit_verdict c) plan.now.exit_condition plan.now.required_finalizations (target_count plan.now.participants plan.now.crashes world.new.exercise.delayed_started) watch.new r)) }
+    ensures comes { IfErr result (StopComes plan.now.crashes (λ u. u ≡ update) watch.old) }
     ensures late { IfErr result (λ s. IsTrue (stops_late s)) }
 {
     match watch.observe(update) {
@@ -113,7 +116,8 @@ fn take_report<D: EngineDefinition>(
 
 /// Checks the states of now.
 fn check_now<D: EngineDefinition>(plan: &Plan<D>, world: &World<D>) -> Result<Vec<StateView>, Stop>
-    ensures { IfErr result (λ s. IsTrue (stops_late s)) }
+    ensures asked { IfErr result (λ s. IsTrue (stops_asked s)) }
+    ensures late { IfErr result (λ s. IsTrue (stops_late s)) }
 {
     let states = match active_states(world.alloc, &world.seats) {
         Ok(states) => states,
@@ -136,6 +140,7 @@ fn check_and_ask<D: EngineDefinition>(
     watch: &Watch,
 ) -> Result<Option<Reached>, Stop>
     ensures reached { IfOk result (λ o. IfSome o (λ r. IsReached (λ c. exit_verdict c) plan.now.exit_condition plan.now.required_finalizations (target_count plan.now.participants plan.now.crashes world.now.exercise.delayed_started) watch.now r)) }
+    ensures asked { IfErr result (λ s. IsTrue (stops_asked s)) }
     ensures late { IfErr result (λ s. IsTrue (stops_late s)) }
 {
     match check_now(plan, world) {
@@ -152,16 +157,18 @@ fn drain_report<D: EngineDefinition>(
     update: FinalizationUpdate,
 ) -> Result<(), Stop>
     ensures updates { OnOk result (watch.new ≡ watch.old ++ update ∷ []) }
+    ensures comes { IfErr result (StopComes plan.now.crashes (λ u. u ≡ update) watch.old) }
     ensures late { IfErr result (λ s. IsTrue (stops_late s)) }
 {
     match watch.observe(update) {
         Ok(()) => {}
         Err(stop) => return Err(stop),
     }
-    match check_now(plan, world) {
-        Ok(_) => Ok(()),
-        Err(stop) => Err(stop),
-    }
+    let _seen = match check_now(plan, world) {
+        Ok(states) => states,
+        Err(stop) => return Err(stop),
+    };
+    Ok(())
 }
 
 /// Observes the next report.
@@ -177,6 +184,7 @@ fn next_report<D: EngineDefinition>(
     ensures disturbs { OnOk result (Disturbs (D.peer_of plan.now.engine) agenda.old agenda.new world.old world.new) }
     ensures updates { OnOk result (watch.new ≡ watch.old ++ update ∷ []) }
     ensures reached { IfOk result (λ o. IfSome o (λ r. IsReached (λ c. exit_verdict c) plan.now.exit_condition plan.now.required_finalizations (target_count plan.now.participants plan.now.crashes world.new.exercise.delayed_started) watch.new r)) }
+    ensures comes { IfErr result (StopComes plan.now.crashes (λ u. u ≡ update) watch.old) }
     ensures late { IfErr result (λ s. IsTrue (stops_late s)) }
 {
     match reached {
@@ -200,6 +208,7 @@ pub fn take_reports<D: EngineDefinition>(
     ensures disturbs { OnOk result (Disturbs (D.peer_of plan.now.engine) agenda.old agenda.new world.old world.new) }
     ensures updates { OnOk result (watch.new ≡ watch.old ++ updates.items) }
     ensures reached { IfOk result (λ o. IfSome o (λ r. IsReached (λ c. exit_verdict c) plan.now.exit_condition plan.now.required_finalizations (target_count plan.now.participants plan.now.crashes world.new.exercise.delayed_started) watch.new r)) }
+    ensures comes { IfErr result (StopComes plan.now.crashes (Contains updates.items) watch.old) }
     ensures late { IfErr result (λ s. IsTrue (stops_late s)) }
 {
     let mut reached = None;

@@ -3,12 +3,13 @@ ghost use Rattle.std.specs.Prelude.{◌≡◌, ◌<◌, ◌+◌, ◌++◌, ◌�
 ghost use Rattle.std.specs.List.{flat_map};
 ghost use Rattle.rand_core.specs.Pcg32Seed.{pcg32_seed};
 ghost use Rattle.rand_pcg.specs.Pcg.{pcg32_of_seed};
-ghost use Rattle.simulate_parts.specs.Engine.{updates_of};
+ghost use Rattle.simulate_parts.specs.Engine.{Passes, updates_of};
 ghost use Rattle.simulate_parts.specs.Seats.{runs};
 ghost use Rattle.simulate_parts.specs.Team.{others};
 ghost use Rattle.simulate_parts.specs.Tracker.{first_fault, tracker_of};
 ghost use Rattle.simulate_parts.specs.declared.engine.StepOut.{StepOut};
-ghost use Rattle.ledger_simulate.specs.Handling.{Disturbs, Gives, Grows, Handles, Seated, Stirs, Tells, birth_at};
+ghost use Rattle.ledger_simulate.specs.Causes.{Comes, EndComes, StopComes, stops_asked};
+ghost use Rattle.ledger_simulate.specs.Handling.{Disturbs, Gives, Grows, Handles, Seated, Stirs, Tells, birth_at, number_after};
 ghost use Rattle.ledger_simulate.specs.Links.{changed_links, common_link};
 ghost use Rattle.ledger_simulate.specs.Opening.{actions_of, first_poll, first_tick, opening, starts};
 ghost use Rattle.ledger_simulate.specs.Plans.{Runs, named_late, target_count};
@@ -16,7 +17,7 @@ ghost use Rattle.ledger_simulate.specs.Queue.{empty_queue, first_key, queued_all
 ghost use Rattle.ledger_simulate.specs.Reaching.{IsReached};
 ghost use Rattle.ledger_simulate.specs.Results.{EndedView, ResultView};
 ghost use Rattle.ledger_simulate.specs.Runs.{Extends, Proceeds, ResultOf, Succeeds};
-ghost use Rattle.ledger_simulate.specs.Stops.{early_fault, is_late, stops_late};
+ghost use Rattle.ledger_simulate.specs.Stops.{early_fault, end_of, is_late, stops_late};
 ghost use Rattle.ledger_simulate.specs.declared.event.Event.TheVariants.{Act, ExitPoll};
 
 use crate::agenda::Agenda;
@@ -123,6 +124,7 @@ impl<'a, D: EngineDefinition> Simulation<'a, D> {
     pub fn step(self) -> Result<Stepped<'a, D>, SimEnd>
         ensures early { IfSome (early_fault (first_key self.entry.queue) self.entry.handled self.entry.plan.now.max_events self.entry.plan.now.timeout) (λ f. result ≡ Err (SimEnd.Fault (record { fault = f; seed = self.entry.seed; handled = self.entry.handled; max_events = self.entry.plan.now.max_events; timeout = self.entry.plan.now.timeout }))) }
         ensures late { (e : EndedView) → early_fault (first_key self.entry.queue) self.entry.handled self.entry.plan.now.max_events self.entry.plan.now.timeout ≡ None → result ≡ Err (SimEnd.Fault e) → (IsTrue (is_late e.fault)) × (e.handled ≡ self.entry.handled + 1) × (e.seed ≡ self.entry.seed) × (e.max_events ≡ self.entry.plan.now.max_events) × (e.timeout ≡ self.entry.plan.now.timeout) }
+        ensures comes { (e : EndedView) → early_fault (first_key self.entry.queue) self.entry.handled self.entry.plan.now.max_events self.entry.plan.now.timeout ≡ None → result ≡ Err (SimEnd.Fault e) → Comes self.entry.plan.now.crashes (λ u. Seated (D.peer_of self.entry.plan.now.engine) self.entry.queue.next self.entry.world.seats.entries → Passes (D.reports self.entry.plan.now.engine) u) self.entry.watch e.fault }
         ensures ended { (e : EndedView) → result ≡ Err (SimEnd.Fault e) → (e.seed ≡ self.entry.seed) × (e.max_events ≡ self.entry.plan.now.max_events) × (e.timeout ≡ self.entry.plan.now.timeout) }
         ensures on { (next : _) → result ≡ Ok (Stepped.On next) → Proceeds (D.peer_of self.entry.plan.now.engine) (D.journal self.entry.plan.now.engine) (D.reports self.entry.plan.now.engine) self.entry.queue next.queue self.entry.watch next.watch self.entry.world next.world × (next.handled ≡ self.entry.handled + 1) × (self.entry.handled < self.entry.plan.now.max_events) × (next.seed ≡ self.entry.seed) × (next.plan ≡ self.entry.plan) }
         ensures done { (r : ResultView) → result ≡ Ok (Stepped.Done r) → Extends self.entry.watch r.updates × (r.handled ≡ self.entry.handled + 1) × (r.seed ≡ self.entry.seed) × (r.max_events ≡ self.entry.plan.now.max_events) × (r.timeout ≡ self.entry.plan.now.timeout) }
@@ -146,6 +148,7 @@ impl<'a, D: EngineDefinition> Simulation<'a, D> {
         requires early { early_fault (first_key self.queue) self.handled self.plan.now.max_events self.plan.now.timeout ≡ None }
         requires below { self.handled < self.plan.now.max_events }
         ensures late { (e : EndedView) → result ≡ Err (SimEnd.Fault e) → (IsTrue (is_late e.fault)) × (e.handled ≡ self.entry.handled + 1) × (e.seed ≡ self.entry.seed) × (e.max_events ≡ self.entry.plan.now.max_events) × (e.timeout ≡ self.entry.plan.now.timeout) }
+        ensures comes { (e : EndedView) → result ≡ Err (SimEnd.Fault e) → Comes self.entry.plan.now.crashes (λ u. Seated (D.peer_of self.entry.plan.now.engine) self.entry.queue.next self.entry.world.seats.entries → Passes (D.reports self.entry.plan.now.engine) u) self.entry.watch e.fault }
         ensures on { (next : _) → result ≡ Ok (Stepped.On next) → Proceeds (D.peer_of self.entry.plan.now.engine) (D.journal self.entry.plan.now.engine) (D.reports self.entry.plan.now.engine) self.entry.queue next.queue self.entry.watch next.watch self.entry.world next.world × (next.handled ≡ self.entry.handled + 1) × (next.seed ≡ self.entry.seed) × (next.plan ≡ self.entry.plan) }
         ensures done { (r : ResultView) → result ≡ Ok (Stepped.Done r) → Extends self.entry.watch r.updates × (r.handled ≡ self.entry.handled + 1) × (r.seed ≡ self.entry.seed) × (r.max_events ≡ self.entry.plan.now.max_events) × (r.timeout ≡ self.entry.plan.now.timeout) }
         ensures success { (r : ResultView) → result ≡ Ok (Stepped.Done r) → Succeeds (λ c. exit_verdict c) (λ p. property_complaint p) self.entry.plan.now.participants self.entry.plan.now.crashes self.entry.plan.now.exit_condition self.entry.plan.now.required_finalizations self.entry.plan.now.property r }
@@ -168,8 +171,7 @@ impl<'a, D: EngineDefinition> Simulation<'a, D> {
         match outcome {
             Ok(None) => self.go_on(key.0, agenda),
             Ok(Some(reached)) => self.finish(reached),
-            Err(Stop::Fault(fault)) => Err(ended(plan, self.seed, self.handled, fault)),
-            Err(Stop::OutOfMemory) => Err(SimEnd::OutOfMemory),
+            Err(stop) => Err(stopped(plan, self.seed, self.handled, stop)),
         }
     }
 
@@ -189,6 +191,7 @@ impl<'a, D: EngineDefinition> Simulation<'a, D> {
     fn finish(self, reached: Reached) -> Result<Stepped<'a, D>, SimEnd>
         requires { IsReached (λ c. exit_verdict c) self.plan.now.exit_condition self.plan.now.required_finalizations (target_count self.plan.now.participants self.plan.now.crashes self.world.exercise.delayed_started) self.watch reached }
         ensures late { (e : EndedView) → result ≡ Err (SimEnd.Fault e) → (IsTrue (is_late e.fault)) × (e.handled ≡ self.entry.handled) × (e.seed ≡ self.entry.seed) × (e.max_events ≡ self.entry.plan.now.max_events) × (e.timeout ≡ self.entry.plan.now.timeout) }
+        ensures comes { (e : EndedView) → result ≡ Err (SimEnd.Fault e) → EndComes self.entry.plan.now.crashes e.fault }
         ensures on { (next : _) → result ≡ Ok (Stepped.On next) → ⊥ }
         ensures done { (r : ResultView) → result ≡ Ok (Stepped.Done r) → (r.updates ≡ self.entry.watch) × (r.handled ≡ self.entry.handled) × (r.seed ≡ self.entry.seed) × (r.max_events ≡ self.entry.plan.now.max_events) × (r.timeout ≡ self.entry.plan.now.timeout) }
         ensures success { (r : ResultView) → result ≡ Ok (Stepped.Done r) → Succeeds (λ c. exit_verdict c) (λ p. property_complaint p) self.entry.plan.now.participants self.entry.plan.now.crashes self.entry.plan.now.exit_condition self.entry.plan.now.required_finalizations self.entry.plan.now.property r }
@@ -259,6 +262,16 @@ fn ended<D: EngineDefinition>(plan: &Plan<D>, seed: u64, handled: u64, fault: Pl
         max_events: plan.max_events,
         timeout: plan.timeout,
     })
+}
+
+/// The end of a run by a stop.
+fn stopped<D: EngineDefinition>(plan: &Plan<D>, seed: u64, handled: u64, stop: Stop) -> SimEnd
+    ensures { result ≡ end_of stop seed handled plan.now.max_events plan.now.timeout }
+{
+    match stop {
+        Stop::Fault(fault) => ended(plan, seed, handled, fault),
+        Stop::OutOfMemory => SimEnd::OutOfMemory,
+    }
 }
 
 /// Why a run stops before its first event is handled.
@@ -431,6 +444,7 @@ fn handle<D: EngineDefinition>(
     ensures handled { OnOk result (Handles (D.peer_of plan.now.engine) (D.journal plan.now.engine) (D.reports plan.now.engine) key event agenda.old agenda.new watch.old watch.new world.old world.new) }
     ensures updates { OnOk result (Extends watch.old watch.new) }
     ensures reached { IfOk result (λ o. IfSome o (λ r. IsReached (λ c. exit_verdict c) plan.now.exit_condition plan.now.required_finalizations (target_count plan.now.participants plan.now.crashes world.new.exercise.delayed_started) watch.new r)) }
+    ensures comes { IfErr result (StopComes plan.now.crashes (λ u. Seated (D.peer_of plan.now.engine) (number_after agenda.old) world.old.seats.entries → Passes (D.reports plan.now.engine) u) watch.old) }
     ensures late { IfErr result (λ s. IsTrue (stops_late s)) }
 {
     match event {
@@ -506,6 +520,7 @@ impl Told {
 fn unless_short(done: Result<(), OutOfMemory>) -> Result<Option<Reached>, Stop>
     ensures on { OnOk result (done ≡ Ok tt) }
     ensures none { IfOk result (λ o. o ≡ None) }
+    ensures short { IfErr result (λ s. s ≡ Stop.OutOfMemory) }
     ensures late { IfErr result (λ s. IsTrue (stops_late s)) }
 {
     match done {
@@ -534,6 +549,7 @@ fn poll<D: EngineDefinition>(
 ) -> Result<Option<Reached>, Stop>
     ensures stirs { OnOk result (Stirs (D.peer_of plan.now.engine) agenda.old agenda.new world.now world.now) }
     ensures reached { IfOk result (λ o. IfSome o (λ r. IsReached (λ c. exit_verdict c) plan.now.exit_condition plan.now.required_finalizations (target_count plan.now.participants plan.now.crashes world.now.exercise.delayed_started) watch.now r)) }
+    ensures asked { IfErr result (λ s. IsTrue (stops_asked s)) }
     ensures late { IfErr result (λ s. IsTrue (stops_late s)) }
 {
     match polled_states(world, agenda) {
@@ -583,6 +599,7 @@ fn step_at<D: EngineDefinition>(
     ensures told { OnOk result (Tells (D.peer_of plan.now.engine) (D.journal plan.now.engine) (D.reports plan.now.engine) told.pk told.birth told.event agenda.old agenda.new watch.old watch.new world.old world.new) }
     ensures updates { OnOk result (Extends watch.old watch.new) }
     ensures reached { IfOk result (λ o. IfSome o (λ r. IsReached (λ c. exit_verdict c) plan.now.exit_condition plan.now.required_finalizations (target_count plan.now.participants plan.now.crashes world.new.exercise.delayed_started) watch.new r)) }
+    ensures comes { IfErr result (StopComes plan.now.crashes (λ u. Seated (D.peer_of plan.now.engine) (number_after agenda.old) world.old.seats.entries → Passes (D.reports plan.now.engine) u) watch.old) }
     ensures late { IfErr result (λ s. IsTrue (stops_late s)) }
 {
     let Told { pk, birth, event } = told;

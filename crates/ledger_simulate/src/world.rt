@@ -1,8 +1,9 @@
 //! The engines of a run and what surrounds them.
-ghost use Rattle.std.specs.Prelude.{◌≡◌, ◌<◌, ◌++◌, ◌∷◌, [], IfErr, IfOk, IsTrue, OnOk, filter, length, vec_len};
+ghost use Rattle.std.specs.Prelude.{◌≡◌, ◌⊎◌, ◌<◌, ◌++◌, ◌∷◌, [], ℕ, IfErr, IfOk, IsTrue, OnOk, filter, length, nat_lt, vec_len};
 ghost use Rattle.rand_pcg.specs.Lcg.{Lcg};
 ghost use Rattle.simulate_parts.specs.Seats.{stopped};
 ghost use Rattle.simulate_parts.specs.Team.{names, place_of};
+ghost use Rattle.ledger_simulate.specs.Causes.{Skips, is_passed};
 ghost use Rattle.ledger_simulate.specs.Handling.{Disturbs, Stirs};
 ghost use Rattle.ledger_simulate.specs.Links.{changed_links, common_link};
 ghost use Rattle.ledger_simulate.specs.Plans.{named_late, target_count};
@@ -241,6 +242,7 @@ impl<D: EngineDefinition> World<D> {
     /// Crashes the participants whose heights have entered the windows in which they are to crash.
     pub fn enter_windows(&mut self, plan: &Plan<D>, agenda: &mut Agenda) -> Result<(), Stop>
         ensures disturbs { OnOk result (Disturbs (D.peer_of plan.now.engine) agenda.old agenda.new self.old self.new) }
+        ensures skips { IfErr result (λ s. (s ≡ Stop.OutOfMemory) ⊎ ((height : ℕ) × (s ≡ Stop.Fault (PlanFault.SkippedWindow height)) × Skips plan.now.crashes height)) }
         ensures late { IfErr result (λ s. IsTrue (stops_late s)) }
     {
         for (index, crash) in plan.crashes.as_slice().iter().enumerate() {
@@ -255,6 +257,7 @@ impl<D: EngineDefinition> World<D> {
     /// Looks at the window of the configured failure at this place, if it is one.
     fn look_at(&mut self, agenda: &mut Agenda, index: usize, crash: &Crash) -> Result<(), Stop>
         ensures disturbs { OnOk result ((peer_of : _) → Disturbs peer_of agenda.old agenda.new self.old self.new) }
+        ensures skips { IfErr result (λ s. (s ≡ Stop.OutOfMemory) ⊎ ((height : ℕ) × (s ≡ Stop.Fault (PlanFault.SkippedWindow height)) × IsTrue (is_passed height crash.now))) }
         ensures late { IfErr result (λ s. IsTrue (stops_late s)) }
     {
         match crash {
@@ -287,6 +290,7 @@ impl<D: EngineDefinition> World<D> {
         window: Window,
     ) -> Result<(), Stop>
         ensures disturbs { OnOk result ((peer_of : _) → Disturbs peer_of agenda.old agenda.new self.old self.new) }
+        ensures skips { IfErr result (λ s. (s ≡ Stop.OutOfMemory) ⊎ ((height : ℕ) × (s ≡ Stop.Fault (PlanFault.SkippedWindow height)) × IsTrue (nat_lt window.last height))) }
         ensures late { IfErr result (λ s. IsTrue (stops_late s)) }
     {
         if self.exercise.has_entered(index) {

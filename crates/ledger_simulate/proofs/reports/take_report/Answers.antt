@@ -1,3 +1,5 @@
+use Rattle.std.proofs.Common.{◌≡◌}
+use Rattle.ledger_simulate.proofs.Causing.{stop_asked, stop_forks, stop_skips}
 use Rattle.ledger_simulate.proofs.Stirring.{disturbs_then}
 use Rattle.ledger_simulate.proofs.reports.take_report.Goals as goal
 
@@ -5,3 +7,12 @@ pub returns-in-Ok-start_delayed-clause-disturbs : goal.returns-in-Ok-start_delay
 returns-in-Ok-start_delayed-clause-disturbs g c =
     disturbs_then (g.D.EngineDefinition.peer_of c.args.plan.now.engine) c.args.agenda.now c.enter_windows.new.agenda c.start_delayed.new.agenda c.args.world.now c.enter_windows.new.self c.start_delayed.new.self
     c.in-Ok-enter_windows.ensures.disturbs c.in-Ok-start_delayed.ensures
+
+pub returns-in-Err-clause-comes : goal.returns-in-Err-clause-comes
+returns-in-Err-clause-comes g c = stop_forks c.args.plan.now.crashes c.args.watch.now c.args.update c.in-Err.stop c.in-Err.ensures.fork
+
+pub returns-in-Err-enter_windows-clause-comes : goal.returns-in-Err-enter_windows-clause-comes
+returns-in-Err-enter_windows-clause-comes g c = stop_skips c.args.plan.now.crashes (λ u. u ≡ c.args.update) c.args.watch.now c.in-Err-enter_windows.stop c.in-Err-enter_windows.ensures.skips
+
+pub returns-in-Err-check_and_ask-clause-comes : goal.returns-in-Err-check_and_ask-clause-comes
+returns-in-Err-check_and_ask-clause-comes g c = stop_asked c.args.plan.now.crashes (λ u. u ≡ c.args.update) c.args.watch.now c.in-Err-check_and_ask.stop c.in-Err-check_and_ask.ensures.asked

@@ -1,4 +1,7 @@
 use Rattle.std.specs.Vec.Iter.{into_iter_items}
+use Rattle.std.proofs.Common.{◌≡◌, ◌++◌, ◌∷◌, [], Contains, ap, ◌∙◌, sym, subst}
+use Rattle.std.proofs.lemmas.List.{append_assoc}
+use Rattle.ledger_simulate.proofs.Causing.{among_first, among_more, stop_wider}
 use Rattle.ledger_simulate.proofs.Reaches.{updates_more}
 use Rattle.ledger_simulate.proofs.Stirring.{disturbs_then}
 use Rattle.ledger_simulate.proofs.reports.take_reports.Goals as goal
@@ -8,8 +11,17 @@ loop-update-preserved g c = record {
   disturbs =
       disturbs_then (g.D.EngineDefinition.peer_of c.args.plan.now.engine) c.args.agenda.now c.loop-update.agenda c.next_report.new.agenda c.args.world.now c.loop-update.world c.next_report.new.world
       c.loop-update.invariant.disturbs c.in-Ok.ensures.disturbs;
+  since =
+      (c.loop-update.invariant.since.0 ++ c.in-Some.update ∷ [], c.in-Ok.ensures.updates ∙ ap (λ us. us ++ c.in-Some.update ∷ []) c.loop-update.invariant.since.1 ∙ append_assoc c.args.watch.now c.loop-update.invariant.since.0 (c.in-Some.update ∷ []));
+  among = λ u left. c.loop-update.invariant.among u (among_more (into_iter_items c.loop-update.update-iterator) (into_iter_items c.next.new.self) c.in-Some.update u c.in-Some.ensures.steps.0 left);
   updates =
       updates_more c.loop-update.watch c.next_report.new.watch c.args.watch.now c.args.updates.items (into_iter_items c.loop-update.update-iterator) (into_iter_items c.next.new.self) c.in-Some.update
       c.loop-update.invariant.updates c.in-Some.ensures.steps.0 c.in-Ok.ensures.updates;
   reached = c.in-Ok.ensures.reached;
 }
+
+pub returns-in-Err-clause-comes : goal.returns-in-Err-clause-comes
+returns-in-Err-clause-comes g c =
+    stop_wider c.args.plan.now.crashes (λ u. u ≡ c.in-Some.update) (Contains c.args.updates.items) c.args.watch.now c.loop-update.watch c.loop-update.invariant.since.0 c.loop-update.invariant.since.1
+    (λ u same. c.loop-update.invariant.among u (subst (Contains (into_iter_items c.loop-update.update-iterator)) (sym same) (among_first (into_iter_items c.loop-update.update-iterator) (into_iter_items c.next.new.self) c.in-Some.update c.in-Some.ensures.steps.0)))
+    c.in-Err.stop c.in-Err.ensures.comes

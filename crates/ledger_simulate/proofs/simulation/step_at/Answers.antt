@@ -1,4 +1,11 @@
-use Rattle.std.proofs.Common.{◌++◌, sym, ap, ◌∙◌}
+use Rattle.std.proofs.Common.{[], Contains, subst, ◌++◌, sym, ap, ◌∙◌}
+use Rattle.std.proofs.lemmas.List.{append-nil}
+use Rattle.std.proofs.lemmas.List.Elements.{All-contains}
+use Rattle.simulate_parts.specs.Engine.{Passes, updates_of}
+use Rattle.ledger_simulate.specs.Causes.{StopComes}
+use Rattle.ledger_simulate.specs.Handling.{Seated, number_after}
+use Rattle.ledger_simulate.proofs.Causing.{if_err_map, stop_wider}
+use Rattle.ledger_simulate.proofs.Engines.{passes_step}
 use Rattle.ledger_simulate.proofs.Results.{on_both}
 use Rattle.ledger_simulate.proofs.Proceeding.{tells_by}
 use Rattle.ledger_simulate.proofs.simulation.step_at.Goals as goal
@@ -19,3 +26,17 @@ returns-in-Ok-clause-told g c =
       disturbs = disturbs;
     }))
     c.take_reports.ensures.disturbs c.take_reports.ensures.updates
+
+pub returns-in-Ok-clause-comes : goal.returns-in-Ok-clause-comes
+returns-in-Ok-clause-comes g c =
+    let engine = c.args.plan.now.engine in
+    let given = c.in-Ok.ensures in
+    let crashes = c.args.plan.now.crashes in
+    let watch = c.args.watch.now in
+    if_err_map (StopComes crashes (Contains c.in-Ok.updates.items) watch) (StopComes crashes (λ u. Seated (g.D.EngineDefinition.peer_of engine) (number_after c.args.agenda.now) c.args.world.now.seats.entries → Passes (g.D.EngineDefinition.reports engine) u) watch)
+    (stop_wider crashes (Contains c.in-Ok.updates.items) (λ u. Seated (g.D.EngineDefinition.peer_of engine) (number_after c.args.agenda.now) c.args.world.now.seats.entries → Passes (g.D.EngineDefinition.reports engine) u) watch watch [] (sym (append-nil watch))
+    (λ u among seated.
+    All-contains (Passes (g.D.EngineDefinition.reports engine)) (updates_of c.args.told.pk given.0.finalized) u
+    (passes_step (g.D.EngineDefinition.peer_of engine) (g.D.EngineDefinition.journal engine) (g.D.EngineDefinition.reports engine) c.args.told.pk c.args.told.event given.0 (number_after c.args.agenda.now) c.args.world.now.seats.entries c.step_and_send.new.world.seats.entries given.1.step seated)
+    (subst (λ us. Contains us u) given.2 among)))
+    c.take_reports.result c.take_reports.ensures.comes

@@ -1,6 +1,11 @@
-use Rattle.std.proofs.Common.{ap, ◌∙◌}
+use Rattle.std.proofs.Common.{[], sym, ap, ◌∙◌, subst}
+use Rattle.std.proofs.lemmas.List.{append-nil}
+use Rattle.simulate_parts.specs.Engine.{Passes}
+use Rattle.ledger_simulate.specs.Causes.{StopComes}
+use Rattle.ledger_simulate.specs.Handling.{Seated, number_after}
 use Rattle.ledger_simulate.specs.Queue.{empty_agenda}
-use Rattle.ledger_simulate.proofs.Proceeding.{goes_on, grows_by}
+use Rattle.ledger_simulate.proofs.Causing.{ends_by, stop_wider}
+use Rattle.ledger_simulate.proofs.Proceeding.{goes_on, grows_by, seated_begun}
 use Rattle.ledger_simulate.proofs.simulation.Simulation.advance.Goals as goal
 
 pub returns-in-Ok-None-clause-on : goal.returns-in-Ok-None-clause-on
@@ -21,3 +26,15 @@ returns-in-Ok-Some-clause-reports g c = λ r e seated.
     grows_by (g.D.EngineDefinition.peer_of engine) (g.D.EngineDefinition.journal engine) (g.D.EngineDefinition.reports engine) c.args.self.queue c.take.new.self c.in-Some.entry c.new-agenda.result
     c.handle-outcome.new.agenda c.args.self.watch c.handle-outcome.new.watch r.updates c.args.self.world c.handle-outcome.new.world c.in-Some.ensures.taken (c.new-agenda.ensures ∙ ap empty_agenda c.next.ensures)
     c.in-Ok-Some.ensures.handled (c.finish.ensures.done r e).0 seated
+
+pub returns-clause-comes : goal.returns-clause-comes
+returns-clause-comes g c = λ e h.
+    let engine = c.args.self.plan.now.engine in
+    let crashes = c.args.self.plan.now.crashes in
+    let watch = c.args.self.watch in
+    subst (StopComes crashes (λ u. Seated (g.D.EngineDefinition.peer_of engine) c.args.self.queue.next c.args.self.world.seats.entries → Passes (g.D.EngineDefinition.reports engine) u) watch) (ends_by c.in-Err.stop c.stopped.result _ _ _ _ e c.stopped.ensures h).0
+    (stop_wider crashes (λ u. Seated (g.D.EngineDefinition.peer_of engine) (number_after c.new-agenda.result) c.args.self.world.seats.entries → Passes (g.D.EngineDefinition.reports engine) u) (λ u. Seated (g.D.EngineDefinition.peer_of engine) c.args.self.queue.next c.args.self.world.seats.entries → Passes (g.D.EngineDefinition.reports engine) u) watch watch [] (sym (append-nil watch))
+    (λ u may seated.
+    may (seated_begun (g.D.EngineDefinition.peer_of engine) (g.D.EngineDefinition.journal engine) (g.D.EngineDefinition.reports engine) c.args.self.queue c.take.new.self c.in-Some.entry c.new-agenda.result c.args.self.world c.in-Some.ensures.taken
+    (c.new-agenda.ensures ∙ ap empty_agenda c.next.ensures) seated))
+    c.in-Err.stop c.in-Err.ensures.comes)

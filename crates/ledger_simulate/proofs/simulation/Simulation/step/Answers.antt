@@ -8,3 +8,6 @@ returns-clause-ended g c = λ e h. let p = c.advance.ensures.late e h in (p.2, p
 
 pub returns-clause-on : goal.returns-clause-on
 returns-clause-on g c = λ next h. let p = c.advance.ensures.on next h in (p.0, p.1, c.early.ensures.below c.in-None.is, p.2, p.3)
+
+pub returns-clause-comes : goal.returns-clause-comes
+returns-clause-comes g c = λ e none h. c.advance.ensures.comes e h
