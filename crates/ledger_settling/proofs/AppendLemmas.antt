@@ -1,5 +1,5 @@
 -- The operations that a settled batch appends.
-use Rattle.std.proofs.Common.{◌≡◌, ℕ, ◌+◌, ◌-◌, ◌^◌, ◌||◌, ◌⊎◌, inl, inr, rules, ◌<◌, ◌≤◌, Bool, true, false, cond, nat_lt, nat_le, List, [], ◌∷◌, ◌++◌, length, map, Option, None, Some, Result, Ok, Err, refl, sym, ap, subst, ◌∙◌, bytes_eq, not, filter, arith, append_assoc, length-append}
+use Rattle.std.proofs.Common.{◌≡◌, ℕ, ◌+◌, ◌-◌, ◌^◌, ◌||◌, ◌⊎◌, inl, inr, rules, ◌<◌, ◌≤◌, Bool, true, false, cond, nat_lt, nat_le, List, [], ◌∷◌, ◌++◌, length, map, Option, None, Some, Result, Err, refl, sym, ap, subst, ◌∙◌, bytes_eq, not, filter, arith, append_assoc, length-append}
 use borrow.Author.Tests.{tests}
 use Rattle.std.specs.Prelude.{IsSome, MatchOption, IsOkUnless, option_and_then, unwrap_or, is_some}
 use Rattle.std.specs.Option.{option_map}
@@ -9,20 +9,20 @@ use Rattle.std.specs.Cmp.{IsEquivalence}
 use Rattle.std.specs.Cmp.Lexicographic.{nat_list_eq_equiv}
 use Rattle.ledger_log.specs.Any.{any_floor}
 use Rattle.ledger_log.specs.Faults.{batch_refusal, append_refusal}
-use Rattle.ledger_log.specs.View.{LogView, last_floor, batch_floor, log_size, log_floor, floor_or_zero}
+use Rattle.ledger_log.specs.View.{LogView, last_floor, batch_floor, log_size, floor_or_zero}
 use Rattle.ledger_log.specs.declared.any.AnyOp.{AnyOp}
-use Rattle.ledger_log.specs.declared.any.AnyOp.TheVariants.{Update, Delete, CommitFloor}
+use Rattle.ledger_log.specs.declared.any.AnyOp.TheVariants.{Update, CommitFloor}
 use Rattle.ledger_log.specs.declared.fault.LogFault.{LogFault}
 use Rattle.ledger_log.specs.declared.fault.LogFault.TheVariants.{Full as LogFull, OutOfMemory as LogMemory}
 use Rattle.ledger_managed.specs.Values.{Values, ValueLaws}
-use Rattle.ledger_transfers.specs.Rules.{Rules, AccountLaws, SameOutcome}
-use Rattle.ledger_transfers.specs.Touches.{total_of, IsTouched}
-use Rattle.ledger_transfers.specs.Settling.{opened, after, SettlesTo, SameSlot, slot_of}
+use Rattle.ledger_transfers.specs.Rules.{Rules, AccountLaws}
+use Rattle.ledger_transfers.specs.Touches.{total_of}
+use Rattle.ledger_transfers.specs.Settling.{opened, after, SameSlot, slot_of}
 use Rattle.ledger_transfers.specs.declared.change.Change.{Change}
 use Rattle.ledger_transfers.specs.declared.slot.Slot.{Slot}
 use Rattle.ledger_transfers.specs.declared.slot.Slot.TheVariants.{Keep, Put, Delete as Remove}
 use Rattle.ledger_settling.specs.Blocks.{firsts, floor_of, account_at, written, slot_at, changed, appended, with_touches}
-use Rattle.ledger_settling.specs.Reports.{IsReplay, held}
+use Rattle.ledger_settling.specs.Reports.{IsReplay}
 use Rattle.ledger_settling.specs.Slots.{AreSlotsOf, slot_found, opening_of, IsFullOrMemory, AppendFails, append_fault}
 use Rattle.ledger_settling.proofs.ReplayLemmas.{replay_commit}
 use Rattle.ledger_settling.proofs.SlotLemmas.{settles_alike, opens_alike}

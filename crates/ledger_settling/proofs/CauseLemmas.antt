@@ -1,5 +1,5 @@
 -- That a run which has a report has no cause for a fault.
-use Rattle.std.proofs.Common.{◌≡◌, ℕ, zero, suc, ◌+◌, ◌-◌, ◌*◌, ◌^◌, ◌<◌, ◌≤◌, ◌⊎◌, inl, inr, Bool, true, false, cond, not, List, [], ◌∷◌, ◌++◌, length, map, filter, take, slice_get, Option, None, Some, refl, sym, ap, subst, ◌∙◌, bytes_eq, arith, length-append, true≢false}
+use Rattle.std.proofs.Common.{◌≡◌, ℕ, zero, suc, ◌+◌, ◌*◌, ◌^◌, ◌<◌, ◌≤◌, ◌⊎◌, inl, inr, Bool, true, false, cond, not, List, [], ◌∷◌, ◌++◌, length, map, filter, take, slice_get, Option, None, Some, refl, sym, ap, subst, ◌∙◌, bytes_eq, arith, length-append, true≢false}
 use Rattle.std.specs.Prelude.{MatchBool, is_some, option_and_then, unwrap_or, ⊤}
 use Rattle.std.specs.List.{AllByRecursion, list_any, filter_map, cons_option, last_or, flat_map}
 use Rattle.std.specs.Cmp.Lexicographic.{nat_list_eq_equiv, bytes_decides}
@@ -13,8 +13,8 @@ use Rattle.ledger_job.specs.declared.block.Block.TheVariants.{Body, Rounds}
 use Rattle.ledger_job.specs.declared.block.BlockVerdicts.{BlockVerdicts}
 use Rattle.ledger_job.specs.declared.block.BlockVerdicts.TheVariants.{Body as NoVerdicts, Rounds as Verdicts}
 use Rattle.ledger_transfers.specs.Greedy.{AreGreedy, taken}
-use Rattle.ledger_transfers.specs.Touches.{touches, total_of, max_amount, no_total, deb, cred, IsSumOffence}
-use Rattle.ledger_transfers.specs.Settling.{opened, Settles as KeySettles}
+use Rattle.ledger_transfers.specs.Touches.{touches, total_of, max_amount, IsSumOffence}
+use Rattle.ledger_transfers.specs.Settling.{opened}
 use Rattle.ledger_transfers.specs.declared.change.Change.{Change}
 use Rattle.ledger_transfers.specs.declared.fault.Rejection.{Rejection}
 use Rattle.ledger_transfers.specs.declared.fault.Rejection.TheVariants.{Refused, Insufficient, Overflow}
@@ -23,7 +23,7 @@ use Rattle.ledger_transfers.specs.declared.slot.Slot.TheVariants.{Keep, Put, Del
 use Rattle.ledger_transfers.specs.declared.totals.Totals.{Totals}
 use Rattle.ledger_transfers.proofs.TotalLemmas.{total_by-none}
 use Rattle.ledger_transfers.proofs.BatchLemmas.{no_offence, settles_key}
-use Rattle.ledger_settling.specs.Blocks.{Meaning, firsts, joined, written, slot_at, changed, appended, with_touches, account_at, opening, IsSettled, IsOffence, grown, batch_of, Settles, RunsTo, IsRejected, IsFull, floor_of}
+use Rattle.ledger_settling.specs.Blocks.{Meaning, firsts, joined, written, slot_at, changed, appended, opening, IsSettled, IsOffence, grown, batch_of, Settles, RunsTo, IsFull, floor_of}
 
 module _ {T : Type 0} (P : List T → Type 0) where
   -- greedy has one list of verdicts

@@ -1,6 +1,6 @@
 -- Keys that are taken up, with their accounts.
 use Rattle.std.proofs.Common.{◌≡◌, ℕ, zero, suc, ◌+◌, ◌≤◌, length-append, length-drop, ◌||◌, ◌⊎◌, inl, inr, Bool, true, false, cond, List, [], ◌∷◌, ◌++◌, length, drop, map, Option, None, Some, refl, sym, ap, subst, ◌∙◌, bytes_eq, arith, append_assoc, true≢false}
-use Rattle.std.specs.Prelude.{IsSome, is_some, option_and_then, unwrap_or}
+use Rattle.std.specs.Prelude.{IsSome, is_some, unwrap_or}
 use Rattle.std.specs.Option.{option_map}
 use Rattle.std.specs.List.{All, IsDistinct, list_any, zip}
 use Rattle.std.specs.Map.{lookup, keys_of}
@@ -11,9 +11,8 @@ use Rattle.std.proofs.lemmas.List.{append-nil, length-map, map-append}
 use Rattle.std.proofs.lemmas.List.Folds.{list_any-append}
 use Rattle.std.proofs.lemmas.Map.Keys.{IsDistinct-push}
 use Rattle.indexmap.specs.IndexSet.{insert_key, insert_all}
-use Rattle.ledger_transfers.specs.Rules.{Rules, SameOutcome}
-use Rattle.ledger_transfers.specs.Settling.{opened}
-use Rattle.ledger_transfers.specs.Selecting.{AreReadBy, opened_at}
+use Rattle.ledger_transfers.specs.Rules.{SameOutcome}
+use Rattle.ledger_transfers.specs.Selecting.{AreReadBy}
 use Rattle.ledger_transfers.specs.Registering.{touched, registered, fresh}
 use Rattle.ledger_transfers.specs.declared.change.Change.{Change}
 use Rattle.ledger_transfers.specs.declared.held.Held.{Held}

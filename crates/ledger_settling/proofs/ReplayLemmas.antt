@@ -1,5 +1,5 @@
 -- How the accounts of a list of operations change with one operation more.
-use Rattle.std.proofs.Common.{◌≡◌, ℕ, ◌+◌, ◌<◌, Bool, true, false, cond, List, [], ◌∷◌, ◌++◌, length, get_or, take, Option, None, Some, refl, sym, ap, subst, ◌∙◌, bytes_eq, All, append_assoc}
+use Rattle.std.proofs.Common.{◌≡◌, ℕ, ◌+◌, ◌<◌, Bool, true, false, cond, List, [], ◌∷◌, ◌++◌, length, get_or, take, Option, None, Some, refl, sym, ap, subst, ◌∙◌, bytes_eq}
 use Rattle.std.specs.Prelude.{IsSome, MatchBool, option_and_then, option_to_list}
 use Rattle.std.specs.List.{last_or, filter_map, cons_option}
 use Rattle.std.specs.BTreeMap.{BTreeMap}
@@ -14,7 +14,7 @@ use Rattle.ledger_log.specs.declared.any.AnyOp.{AnyOp}
 use Rattle.ledger_log.specs.declared.any.AnyOp.TheVariants.{Update, Delete, CommitFloor}
 use Rattle.ledger_transfers.specs.Rules.{SameOutcome}
 use Rattle.ledger_managed.specs.Values.{Values}
-use Rattle.ledger_settling.specs.Blocks.{account_at, IsReadable}
+use Rattle.ledger_settling.specs.Blocks.{account_at}
 use Rattle.ledger_settling.specs.Reports.{held, IsReplay}
 
 last_or-push : {A : Type 0} → (o : Option A) (xs : List A) (x : A) → last_or o (xs ++ x ∷ []) ≡ Some x

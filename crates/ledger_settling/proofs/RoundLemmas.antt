@@ -1,8 +1,8 @@
 -- Rounds chosen by a selection, against the accounts that a block opens with.
-use Rattle.std.proofs.Common.{◌≡◌, ℕ, zero, suc, ◌+◌, ◌-◌, ◌^◌, ◌<◌, ◌≤◌, Bool, true, false, cond, List, [], ◌∷◌, ◌++◌, length, map, get_or, slice_get, Option, None, Some, Result, Ok, Err, refl, sym, ap, subst, ◌∙◌, bytes_eq, arith, append_assoc, true≢false}
-use Rattle.std.specs.Prelude.{IsSome, IfErr, is_some, position, option_and_then, ⊤}
+use Rattle.std.proofs.Common.{◌≡◌, ℕ, zero, suc, ◌<◌, Bool, true, List, [], ◌∷◌, ◌++◌, length, map, get_or, slice_get, Option, None, Some, refl, sym, ap, subst, ◌∙◌, bytes_eq, arith, append_assoc, true≢false}
+use Rattle.std.specs.Prelude.{IsSome, is_some, position, option_and_then, ⊤}
 use Rattle.std.specs.List.{All, AllByRecursion}
-use Rattle.std.specs.Map.{lookup, keys_of}
+use Rattle.std.specs.Map.{lookup}
 use Rattle.std.specs.Cmp.{IsEquivalence}
 use Rattle.std.specs.Cmp.Lexicographic.{nat_list_eq_equiv, bytes_decides}
 use Rattle.std.specs.BTreeMap.{BTreeMap}
@@ -13,12 +13,11 @@ use Rattle.std.proofs.lemmas.Option.{slice_get-get_or}
 use Rattle.indexmap.proofs.MapLemmas.{some_index}
 use Rattle.ledger_log.specs.View.{LogView}
 use Rattle.ledger_log.specs.declared.any.AnyOp.{AnyOp}
-use Rattle.ledger_managed.specs.Values.{Values}
 use Rattle.ledger_job.specs.declared.block.Block.TheVariants.{Rounds}
 use Rattle.ledger_job.specs.declared.block.BlockVerdicts.TheVariants.{Rounds as Verdicts}
-use Rattle.ledger_transfers.specs.Rules.{Rules, AccountLaws, SameOutcome}
-use Rattle.ledger_transfers.specs.Touches.{touches, total_of, IsTouched}
-use Rattle.ledger_transfers.specs.Settling.{opened, Settles, SettlesTo}
+use Rattle.ledger_transfers.specs.Rules.{Rules, AccountLaws}
+use Rattle.ledger_transfers.specs.Touches.{touches, total_of}
+use Rattle.ledger_transfers.specs.Settling.{opened, SettlesTo}
 use Rattle.ledger_transfers.specs.Selecting.{StandsFor, SettledBy, opened_at}
 use Rattle.ledger_transfers.specs.Registering.{AreSettled}
 use Rattle.ledger_transfers.specs.Greedy.{AreGreedy, taken, IsChosen}
@@ -29,10 +28,10 @@ use Rattle.ledger_transfers.proofs.TouchesLemmas.{touches_cons, touches_append}
 use Rattle.ledger_transfers.proofs.VerdictLemmas.{all_left, all_right}
 use Rattle.ledger_transfers.proofs.SettleLemmas.{settles_same}
 use Rattle.ledger_transfers.proofs.DecideLemmas.{registered_at}
-use Rattle.ledger_settling.specs.Blocks.{Meaning, IsSettled, Settles as BlockSettles, joined, grown, batch_of, account_at}
+use Rattle.ledger_settling.specs.Blocks.{Meaning, IsSettled, Settles as BlockSettles, joined, account_at}
 use Rattle.ledger_settling.specs.Reports.{held, IsReplay}
 use Rattle.ledger_settling.specs.Rounds.{AreOpened, AreChosen, SettlesOn}
-use Rattle.ledger_settling.specs.Slots.{AreSlotsOf, slot_found, opening_of, AppendFails, BlockFails}
+use Rattle.ledger_settling.specs.Slots.{AreSlotsOf, opening_of, AppendFails, BlockFails}
 use Rattle.ledger_settling.specs.declared.fault.ReportFault.{ReportFault}
 use Rattle.ledger_settling.specs.declared.fault.ReportFault.TheVariants.{BadLog, BadValue, Rejected, Full, OutOfMemory}
 use Rattle.ledger_settling.proofs.ChoiceLemmas.{taken_append, greedy_append, greedy_alike}

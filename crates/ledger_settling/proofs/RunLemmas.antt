@@ -1,5 +1,5 @@
 -- One block more.
-use Rattle.std.proofs.Common.{◌≡◌, ℕ, ◌+◌, ◌^◌, ◌<◌, List, [], ◌∷◌, ◌++◌, length, take, slice_get, Some, All, refl, sym, ap, subst}
+use Rattle.std.proofs.Common.{◌≡◌, ℕ, ◌+◌, ◌^◌, ◌<◌, List, [], ◌∷◌, ◌++◌, length, take, slice_get, Some, All, sym, ap, subst}
 use Rattle.ledger_log.specs.View.{LogView, log_root}
 use Rattle.ledger_log.specs.Any.{any_spelling}
 use Rattle.ledger_merkle.specs.Tree.{root, grow, part_root}

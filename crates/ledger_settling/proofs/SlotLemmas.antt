@@ -1,6 +1,6 @@
 -- The slots of a plan, seen from the keys.
-use Rattle.std.proofs.Common.{◌≡◌, ℕ, zero, suc, ◌||◌, ◌⊎◌, ◌+◌, ◌-◌, ◌<◌, ◌≤◌, Bool, true, false, cond, List, [], ◌∷◌, ◌++◌, length, get_or, slice_get, Option, None, Some, refl, sym, ap, subst, ◌∙◌, bytes_eq, inl, inr, filter, not, true≢false, arith}
-use Rattle.std.specs.Prelude.{IsSome, IsNone, MatchOption, position, is_some, map, option_and_then, unwrap_or}
+use Rattle.std.proofs.Common.{◌≡◌, ℕ, zero, suc, ◌||◌, ◌⊎◌, ◌+◌, ◌-◌, ◌<◌, ◌≤◌, Bool, true, false, cond, List, [], ◌∷◌, length, get_or, slice_get, Option, None, Some, refl, sym, ap, subst, ◌∙◌, bytes_eq, inl, inr, filter, not, arith}
+use Rattle.std.specs.Prelude.{IsSome, IsNone, MatchOption, position, is_some, option_and_then}
 use Rattle.std.specs.Option.{option_map}
 use Rattle.std.specs.List.{IsDistinct, list_any, AllByRecursion}
 use Rattle.std.specs.Map.{lookup, keys_of}
@@ -9,18 +9,18 @@ use Rattle.std.specs.Cmp.Lexicographic.{nat_list_eq_equiv, bytes_decides}
 use Rattle.std.specs.BTreeMap.{BTreeMap}
 use Rattle.std.proofs.lemmas.Map.Entries.{lookup_from_place}
 use Rattle.std.proofs.lemmas.List.Quantifiers.{position-Some}
-use Rattle.std.proofs.lemmas.Option.{slice_get_within, slice_get-map, slice_get-get_or, get_or_from_slice_get}
+use Rattle.std.proofs.lemmas.Option.{slice_get-map, slice_get-get_or, get_or_from_slice_get}
 use Rattle.std.proofs.lemmas.List.{length-map}
 use Rattle.indexmap.proofs.MapLemmas.{some_index}
 use Rattle.ledger_transfers.specs.Rules.{Rules, AccountLaws, SameOutcome}
-use Rattle.ledger_transfers.specs.Touches.{touches, total_of, found_total, IsPlanOf, IsTouched, IsWithinSums, IsSumOffence, max_amount}
-use Rattle.ledger_transfers.specs.Settling.{folded, opened, final_balance, after, Settles, Settled, SettlesTo, SameSlot, slot_of, AreSlots, IsFirstOffence, PlanFails, HasFirstOffence}
+use Rattle.ledger_transfers.specs.Touches.{touches, total_of, IsPlanOf, IsTouched, IsWithinSums, IsSumOffence, max_amount}
+use Rattle.ledger_transfers.specs.Settling.{folded, opened, final_balance, Settled, SettlesTo, SameSlot, slot_of, AreSlots, IsFirstOffence, PlanFails, HasFirstOffence}
 use Rattle.ledger_transfers.specs.declared.change.Change.{Change}
 use Rattle.ledger_transfers.specs.declared.slot.Slot.{Slot}
 use Rattle.ledger_transfers.specs.declared.fault.Rejection.{Rejection}
 use Rattle.ledger_transfers.specs.declared.fault.Rejection.TheVariants.{Refused, Insufficient, Overflow}
 use Rattle.ledger_transfers.specs.declared.totals.Totals.{Totals}
-use Rattle.ledger_transfers.proofs.AccountLemmas.{folded_alike, same_trans}
+use Rattle.ledger_transfers.proofs.AccountLemmas.{folded_alike}
 use Rattle.ledger_transfers.proofs.SettleLemmas.{slot_alike}
 use Rattle.ledger_settling.specs.Blocks.{firsts, account_at, Meaning, IsSettled}
 use Rattle.ledger_transfers.specs.declared.fault.PlanFault.{PlanFault}

@@ -1,12 +1,11 @@
 -- What settling blocks of transfers makes of a list of operations.
-use Rattle.std.specs.Prelude.{◌≡◌, ℕ, ◌+◌, ◌-◌, ◌^◌, ◌<◌, ◌≤◌, ◌++◌, Bool, true, false, not, List, [], ◌∷◌, length, map, filter, filter_map, take, slice_get, Option, None, Some, IsSome, MatchOption, unwrap_or, option_map, option_and_then, if◌then◌else◌, bytes_eq, All, count_ones, ⊤, ◌⊎◌}
+use Rattle.std.specs.Prelude.{◌≡◌, ℕ, ◌+◌, ◌^◌, ◌<◌, ◌++◌, Bool, not, List, [], ◌∷◌, length, map, filter, filter_map, take, slice_get, Option, None, Some, IsSome, unwrap_or, option_map, option_and_then, bytes_eq, ⊤, ◌⊎◌}
 use Rattle.std.specs.List.{flat_map, last_or}
-use Rattle.ledger_log.specs.Any.{any_floor, any_write, any_spelling}
-use Rattle.ledger_log.specs.View.{LogView, value_at, log_root}
+use Rattle.ledger_log.specs.Any.{any_floor, any_write}
+use Rattle.ledger_log.specs.View.{value_at}
 use Rattle.ledger_log.specs.declared.any.AnyOp.{AnyOp}
 use Rattle.ledger_log.specs.declared.any.AnyOp.TheVariants.{Update, Delete, CommitFloor}
-use Rattle.ledger_merkle.specs.Tree.{part_root}
-use Rattle.ledger_transfers.specs.Rules.{Rules, SameOutcome}
+use Rattle.ledger_transfers.specs.Rules.{Rules}
 use Rattle.ledger_transfers.specs.Touches.{touches, total_of, IsSumOffence, IsWithinSums}
 use Rattle.ledger_transfers.specs.Settling.{opened, after, slot_of, Settled, HasFirstOffence}
 use Rattle.ledger_transfers.specs.Greedy.{AreGreedy, taken}

@@ -1,14 +1,13 @@
 -- Slots of keys, found by their places.
-use Rattle.std.specs.Prelude.{◌≡◌, ℕ, ◌+◌, ◌^◌, ◌<◌, Bool, List, [], map, length, slice_get, position, Option, Some, None, IsSome, ◌⊎◌, unwrap_or, option_and_then, bytes_eq, ⊤}
+use Rattle.std.specs.Prelude.{◌≡◌, ℕ, ◌+◌, ◌^◌, ◌<◌, Bool, List, length, slice_get, position, Option, Some, IsSome, ◌⊎◌, option_and_then, bytes_eq, ⊤}
 use Rattle.std.specs.BTreeMap.{BTreeMap}
 use Rattle.ledger_log.specs.declared.any.AnyOp.{AnyOp}
 use Rattle.ledger_log.specs.View.{LogView}
 use Rattle.ledger_transfers.specs.Rules.{Rules, SameOutcome}
-use Rattle.ledger_transfers.specs.Touches.{touches, total_of, IsTouched, IsSumOffence, IsWithinSums}
-use Rattle.ledger_transfers.specs.Settling.{opened, SettlesTo, Settled, HasFirstOffence}
+use Rattle.ledger_transfers.specs.Touches.{total_of, IsTouched, IsSumOffence, IsWithinSums}
+use Rattle.ledger_transfers.specs.Settling.{opened, SettlesTo, HasFirstOffence}
 use Rattle.ledger_transfers.specs.declared.change.Change.{Change}
 use Rattle.ledger_transfers.specs.declared.slot.Slot.{Slot}
-use Rattle.ledger_transfers.specs.declared.slot.Slot.TheVariants.{Keep}
 use Rattle.ledger_transfers.specs.declared.fault.PlanFault.{PlanFault}
 use Rattle.ledger_transfers.specs.declared.fault.PlanFault.TheVariants.{Rejected as PlanRejected, OutOfMemory as PlanOutOfMemory}
 use Rattle.ledger_settling.specs.Reports.{held}

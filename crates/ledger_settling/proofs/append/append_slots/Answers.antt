@@ -1,8 +1,5 @@
-use Rattle.std.proofs.Common.{◌≡◌, ◌∙◌, ◌++◌, ◌∷◌, [], ap, sym, subst, Option, List, ℕ, None}
+use Rattle.std.proofs.Common.{◌≡◌, ◌∙◌, ◌++◌, ap, sym, subst}
 use Rattle.std.specs.Prelude.{option_and_then}
-use Rattle.ledger_log.specs.Any.{any_floor}
-use Rattle.ledger_log.specs.declared.any.AnyOp.{AnyOp}
-use Rattle.ledger_log.specs.declared.any.AnyOp.TheVariants.{CommitFloor}
 use Rattle.ledger_settling.specs.Blocks.{written, appended}
 use Rattle.ledger_settling.specs.Slots.{slot_found, AppendFails}
 use Rattle.ledger_settling.proofs.AppendLemmas.{slots_write, batch_is, batch_ends_with, refused, full_or_memory, append_fails, replay_batch}

@@ -1,4 +1,4 @@
-use Rattle.std.proofs.Common.{rules, ◌≡◌, ◌+◌, ◌<◌, ◌≤◌, sym, ap, subst, ◌∙◌, length, Some, arith}
+use Rattle.std.proofs.Common.{◌≡◌, ◌+◌, ◌<◌, ◌≤◌, ap, subst, ◌∙◌, length, Some}
 use Rattle.ledger_log.specs.Any.{any_floor}
 use Rattle.ledger_log.specs.View.{last_floor}
 use Rattle.ledger_settling.proofs.open.open_log.Goals as goal

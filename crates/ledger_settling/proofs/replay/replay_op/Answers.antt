@@ -1,4 +1,4 @@
-use Rattle.std.proofs.Common.{rules, sym, subst, ap, ◌++◌, ◌∷◌, []}
+use Rattle.std.proofs.Common.{sym, subst, ap, ◌++◌, ◌∷◌, []}
 use Rattle.ledger_log.specs.Any.{any_write}
 use Rattle.ledger_settling.specs.Reports.{IsReplay}
 use Rattle.ledger_settling.proofs.ReplayLemmas.{replay_put, replay_delete, replay_other}

@@ -1,4 +1,4 @@
-use Rattle.std.proofs.Common.{◌≡◌, ◌∙◌, List, ℕ, sym, ap, subst, length, bytes_eq}
+use Rattle.std.proofs.Common.{sym, subst}
 use Rattle.ledger_settling.specs.Rounds.{AreChosen}
 use Rattle.ledger_settling.proofs.OpenLemmas.{opened_after}
 use Rattle.ledger_settling.proofs.RoundLemmas.{chosen_round}

@@ -1,4 +1,4 @@
-use Rattle.std.proofs.Common.{◌≡◌, ◌∙◌, List, ℕ, sym, ap, subst, length, bytes_eq}
+use Rattle.std.proofs.Common.{sym, subst, bytes_eq}
 use Rattle.ledger_transfers.specs.Selecting.{StandsFor}
 use Rattle.ledger_transfers.specs.Touches.{touches}
 use Rattle.ledger_settling.proofs.OpenLemmas.{start_within, reads_fit, opened_selection, registered_selection, took_entries}

@@ -1,4 +1,4 @@
-use Rattle.std.proofs.Common.{◌≡◌, ◌∙◌, ◌++◌, [], List, ℕ, sym, ap, subst, bytes_eq, filter, not, map, length}
+use Rattle.std.proofs.Common.{◌≡◌, ◌∙◌, ◌++◌, [], List, ℕ, sym, ap, subst, filter, not}
 use Rattle.std.specs.List.{flat_map}
 use Rattle.ledger_job.specs.declared.block.Block.TheVariants.{Rounds}
 use Rattle.ledger_job.specs.declared.block.BlockVerdicts.TheVariants.{Rounds as Verdicts}

@@ -1,6 +1,6 @@
-use Rattle.std.proofs.Common.{rules, ◌≡◌, sym, ap, subst, refl}
+use Rattle.std.proofs.Common.{sym, subst, refl}
 use Rattle.ledger_transfers.specs.Touches.{touches}
-use Rattle.ledger_settling.specs.Blocks.{meaning, IsOffence, IsSettled}
+use Rattle.ledger_settling.specs.Blocks.{meaning, IsOffence}
 use Rattle.std.specs.Prelude.{IfErr}
 use Rattle.std.proofs.Common.{◌∙◌}
 use Rattle.ledger_settling.specs.Slots.{SlotsFail, AppendFails, opening_of}

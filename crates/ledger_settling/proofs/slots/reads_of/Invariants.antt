@@ -1,4 +1,4 @@
-use Rattle.std.proofs.Common.{◌≡◌, take, length}
+use Rattle.std.proofs.Common.{◌≡◌, length}
 use Rattle.ledger_settling.specs.Slots.{AreReads}
 use Rattle.ledger_settling.proofs.slots.reads_of.Given as goal
 

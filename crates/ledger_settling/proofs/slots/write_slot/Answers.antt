@@ -1,4 +1,4 @@
-use Rattle.std.proofs.Common.{rules, sym, subst, Some, ◌++◌}
+use Rattle.std.proofs.Common.{sym, subst, Some, ◌++◌}
 use Rattle.std.specs.Prelude.{option_to_list}
 use Rattle.ledger_transfers.specs.Rules.{SameOutcome}
 use Rattle.ledger_settling.specs.Blocks.{written}

@@ -1,4 +1,4 @@
-use Rattle.std.proofs.Common.{rules, ◌≡◌, ◌+◌, ◌++◌, ◌∷◌, [], List, get_or, take, sym, ap, subst, ◌∙◌, append_assoc, option_and_then, Option, ℕ}
+use Rattle.std.proofs.Common.{◌≡◌, ◌++◌, [], List, get_or, take, sym, ap, subst, ◌∙◌, append_assoc, option_and_then, Option, ℕ}
 use Rattle.std.specs.Prelude.{option_to_list}
 use Rattle.std.specs.List.{filter_map}
 use Rattle.std.proofs.lemmas.List.{take_more}
