@@ -1,11 +1,16 @@
 //! Worked examples. The expected roots are those of vectors/families.py.
 ghost use Rattle.std.specs.Prelude.{◌≡◌, ◌≤◌, ◌^◌};
 
-use crate::{DatabaseType, ExampleDatabase, ExampleFamily, StorageKind, SyncMode, crate_version};
+use crate::{
+    DatabaseType, ExampleDatabase, ExampleFamily, ImmutableDatabase, StorageKind, SyncMode,
+    Syncable, agree, crate_version,
+};
 use ledger_activity::CurrentFamily;
 use ledger_codec::Digest;
-use ledger_compact::CompactLog;
-use ledger_log::{AnyFamily, AnyOp, ImmutableFamily, ImmutableOp, KeylessFamily, Log, LogFault};
+use ledger_compact::{CompactLog, run_both};
+use ledger_log::{
+    AnyFamily, AnyOp, Family, ImmutableFamily, ImmutableOp, KeylessFamily, Log, LogFault,
+};
 use ledger_merkle::{Location, Sha256Hasher, check_range};
 use std::alloc::Global;
 use std::num::NonZeroU64;
@@ -192,6 +197,41 @@ fn state_sizes(alloc: Global) -> Result<(u64, usize, usize, Digest), LogFault> {
 #[test]
 fn a_state_has_peaks_and_a_proof(rt: HostRuntime) -> Result<(), LogFault> {
     assert!(rt; state_sizes(rt.alloc())? == (15, 4, 3, KEYLESS_FIRST));
+    Ok(())
+}
+
+/// Sizes that a server is told of a database through its trait: all, the boundary, nodes, and what lies above it.
+fn served<F: Family, D: Syncable<F, Sha256Hasher>>(
+    db: &D,
+) -> Result<(u64, u64, usize, usize), LogFault> {
+    let size = db.size();
+    let boundary = db.sync_boundary();
+    let nodes = db.pinned_nodes_at(size)?.len();
+    if size.get() <= boundary.get() {
+        return Ok((size.get(), boundary.get(), nodes, 0));
+    }
+    let (_, ops) = db.historical_proof(size, boundary, NonZeroU64::MAX)?;
+    Ok((size.get(), boundary.get(), nodes, ops.len()))
+}
+
+/// What is served of a database of test operations.
+fn served_tests(alloc: Global) -> Result<(u64, u64, usize, usize), LogFault> {
+    let mut db = ImmutableDatabase::fresh(alloc)?;
+    let _ = add_tests::<ImmutableFamily, _>(alloc, &mut db, 12, 42)?;
+    served::<ImmutableFamily, ImmutableDatabase>(&db)
+}
+
+/// Whether a full and a compact database agree.
+fn twins_agree(alloc: Global) -> Result<bool, LogFault> {
+    let twins = run_both::<KeylessFamily, Sha256Hasher>(alloc, &[])?;
+    Ok(agree(&twins.full, &twins.compact))
+}
+
+#[test]
+fn databases_are_served_and_agree(rt: HostRuntime) -> Result<(), LogFault> {
+    let alloc = rt.alloc();
+    assert!(rt; served_tests(alloc)? == (15, 0, 4, 15));
+    assert!(rt; twins_agree(alloc)?);
     Ok(())
 }
 
