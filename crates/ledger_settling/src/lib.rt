@@ -22,5 +22,5 @@ mod settle;
 mod slots;
 
 pub use fault::ReportFault;
-pub use open::{report_of, settle_log};
+pub use open::report_of;
 pub use report::{Accounts, Report};

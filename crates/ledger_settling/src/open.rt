@@ -51,7 +51,7 @@ fn open_log(
 
 /// The report of these blocks over the log of a part that spans the target, has its root, and ends in a
 /// commit whose floor lies within it. `kept` and `pinned` are the log's own operations and nodes.
-pub fn settle_log<
+fn settle_log<
     R: RandomSource + Threads + Sync,
     T: Transfer<Key = Key, Account = A>,
     A: AccountValue,
