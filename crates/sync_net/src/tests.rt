@@ -4,3 +4,4 @@ mod errors;
 mod machine;
 mod messages;
 mod states;
+mod written;

@@ -1,7 +1,7 @@
 //! The machine's answers.
 
 use crate::*;
-use ledger_log::KeylessOp;
+use ledger_log::{CompactTarget, KeylessOp};
 use ledger_merkle::Location;
 use std::alloc::Global;
 use std::num::NonZeroU64;
@@ -109,4 +109,44 @@ fn is_closed_by_nonsense(alloc: Global) -> Option<bool> {
 #[test]
 fn nonsense_closes(rt: HostRuntime) {
     assert_eq!(rt; is_closed_by_nonsense(rt.alloc()), Some(true));
+}
+
+/// A machine that was closed by a frame that is no message.
+fn closed(alloc: Global) -> Option<Machine<KeylessOp>> {
+    let mut asking = machine(alloc, 1);
+    asking.feed(&[1, 9]).ok()?;
+    match asking.next_answer() {
+        Err(MachineFault::InvalidResponse) => Some(asking),
+        _ => None,
+    }
+}
+
+/// Why a closed machine refuses to ask for operations, and for a compact state.
+fn refused(alloc: Global) -> Option<(Option<SubmitRefusal>, Option<SubmitRefusal>)> {
+    let mut asking = closed(alloc)?;
+    let one = Location::new(1)?;
+    let operations = asking.submit_operations(one, Location::ZERO, NonZeroU64::MIN, false);
+    let target = CompactTarget {
+        root: [0; 32],
+        leaf_count: one,
+    };
+    let state = asking.submit_compact_state(target);
+    Some((operations.err(), state.err()))
+}
+
+#[test]
+fn a_closed_machine_asks_nothing(rt: HostRuntime) {
+    let shut = Some(SubmitRefusal::Closed);
+    assert_eq!(rt; refused(rt.alloc()), Some((shut, shut)));
+}
+
+/// Why a closed machine refuses to ask for a compact target.
+fn target_refused(alloc: Global) -> Option<SubmitRefusal> {
+    let mut asking = closed(alloc)?;
+    asking.submit_compact_target().err()
+}
+
+#[test]
+fn a_closed_machine_asks_for_no_target(rt: HostRuntime) {
+    assert_eq!(rt; target_refused(rt.alloc()), Some(SubmitRefusal::Closed));
 }
