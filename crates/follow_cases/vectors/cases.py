@@ -1,0 +1,180 @@
+"""Roots, frames and tapes of the worked cases of following a log over a link, worked from docs/FORMATS.md.
+`python3 cases.py` prints the constants of src/tests/vectors.rt."""
+import hashlib
+
+
+def digest(data):
+    return hashlib.sha256(data).digest()
+
+
+def be64(number):
+    return number.to_bytes(8, "big")
+
+
+def varint(number):
+    out = b""
+    while number >= 128:
+        out += bytes([number % 128 + 128])
+        number //= 128
+    return out + bytes([number])
+
+
+def commit(floor):
+    return b"\2\0" + varint(floor)
+
+
+def update(key, value):
+    return b"\0" + bytes([key]) * 32 + value
+
+
+def account(balance, nonce):
+    return be64(balance) + be64(nonce) + bytes(16)
+
+
+def leaves_of(ops, start=0):
+    return [digest(b"\0" + be64(start + i) + op) for i, op in enumerate(ops)]
+
+
+def node(left, right):
+    return digest(b"\1" + left + right)
+
+
+def subtree(leaves, height, at):
+    if height == 0:
+        return leaves[at]
+    half = 2 ** (height - 1)
+    return node(subtree(leaves, height - 1, at), subtree(leaves, height - 1, at + half))
+
+
+def heights(size):
+    return [height for height in reversed(range(63)) if size >> height & 1]
+
+
+def peaks(leaves):
+    at, out = 0, []
+    for height in heights(len(leaves)):
+        out.append(subtree(leaves, height, at))
+        at += 2**height
+    return out
+
+
+def root_of(size, nodes):
+    return digest(b"\2" + be64(size) + b"".join(nodes))
+
+
+def root(ops):
+    return root_of(len(ops), peaks(leaves_of(ops)))
+
+
+def pushed(size, nodes, leaf):
+    """The peaks of a log of this size and these peaks, with one leaf more."""
+    trees = list(zip(heights(size), nodes)) + [(0, leaf)]
+    while len(trees) > 1 and trees[-1][0] == trees[-2][0]:
+        (height, left), (_, right) = trees[-2:]
+        trees[-2:] = [(height + 1, node(left, right))]
+    return [tree for _, tree in trees]
+
+
+def proof(leaves, start, count):
+    out = []
+
+    def walk(height, at):
+        if at + 2**height <= start or start + count <= at:
+            out.append(subtree(leaves, height, at))
+        elif height > 0:
+            walk(height - 1, at)
+            walk(height - 1, at + 2 ** (height - 1))
+
+    at = 0
+    for height in heights(len(leaves)):
+        walk(height, at)
+        at += 2**height
+    return out
+
+
+def answer(ops, number, start, count, pinned=False):
+    leaves = leaves_of(ops)
+    digests = proof(leaves, start, count)
+    body = b"\1" + be64(number) + varint(len(ops)) + varint(0) + varint(len(digests)) + b"".join(digests)
+    body += varint(count) + b"".join(ops[start : start + count])
+    if not pinned:
+        return body + b"\0"
+    nodes = peaks(leaves[:start])
+    return body + b"\1" + varint(len(nodes)) + b"".join(nodes)
+
+
+def ask(number, end, start, most, pinned):
+    return b"\0" + be64(number) + varint(end) + varint(start) + be64(most) + bytes([pinned])
+
+
+def frame(body):
+    return varint(len(body)) + body
+
+
+def asks(end, ranges):
+    """The frames of asks for these ranges, under the numbers from 1 on, of which the first begins the target."""
+    return b"".join(frame(ask(1 + i, end, a, b - a, i == 0)) for i, (a, b) in enumerate(ranges))
+
+
+# The log of four accounts, and what one payment of 1 from the first to the second makes of it.
+FOUR = [commit(0)] + [update(key, account(10 * key, key)) for key in (1, 2, 3, 4)] + [commit(0)]
+PAID = FOUR + [update(1, account(9, 2)), update(2, account(21, 2)), commit(0)]
+
+# The log of twelve commits.
+TWELVE = [commit(min(i, 5)) for i in range(12)]
+
+# The logs whose third and whose second operation stops a report.
+PAIR = [commit(0), update(1, account(10, 1)), update(2, account(20, 2)), commit(0)]
+ONES = [commit(0), update(1, b"\1" * 32), update(2, account(20, 2)), commit(0)]
+
+# A log of 300 operations, all but the last one deleting keys.
+LONG = [b"\1" + be64(i) + bytes(24) for i in range(299)] + [commit(0)]
+
+
+def late(start):
+    """The root of a log whose nodes are bytes that count up, with a commit at `start`; and after one more."""
+    nodes = [bytes([i]) * 32 for i in range(len(heights(start)))]
+    nodes = pushed(start, nodes, leaves_of([commit(start)], start)[0])
+    first = root_of(start + 1, nodes)
+    if start + 1 == 2**62:
+        return first, None
+    nodes = pushed(start + 1, nodes, leaves_of([commit(start)], start + 1)[0])
+    return first, root_of(start + 2, nodes)
+
+
+def constants():
+    yield "ROOT_FOUR", "The root of the log of four accounts.", root(FOUR)
+    yield "ROOT_PAID", "Its root after a payment of 1 from the first account to the second.", root(PAID)
+    yield "ROOT_TWELVE", "The root of the log of twelve commits.", root(TWELVE)
+    leaves = leaves_of(TWELVE)
+    five = peaks(leaves[:5])
+    five[1] = bytes([five[1][0] ^ 1]) + five[1][1:]
+    rest = list(enumerate(leaves))[5:]
+    size = 5
+    for _, leaf in rest:
+        five = pushed(size, five, leaf)
+        size += 1
+    yield "ROOT_ALTERED", "Its root where the first byte of the second peak below 5 is another.", root_of(12, five)
+    yield "ROOT_CUT", "The root of the first three operations of the log of two accounts.", root(PAIR[:3])
+    yield "ROOT_ONES", "The root of the log whose first Update is no account.", root(ONES)
+    yield "ROOT_LONG", "The root of the log of 300 operations.", root(LONG)
+    yield "ROOT_LAST", "The root of the log that ends at 2^62.", late(2**62 - 1)[0]
+    before, end = late(2**62 - 2)
+    yield "ROOT_BEFORE", "The root of the log that ends before 2^62.", before
+    yield "ROOT_END", "Its root after one more commit.", end
+    yield "FIRST", "The framed answer 1 of the log of twelve, from 5 to 8.", frame(answer(TWELVE, 1, 5, 3, True))
+    yield "SECOND", "The framed answer 2 of the log of twelve, from 8 to 11.", frame(answer(TWELVE, 2, 8, 3))
+    yield "THIRD", "The framed answer 3 of the log of twelve, from 11 to 12.", frame(answer(TWELVE, 3, 11, 1))
+    yield "MANY", "The framed answer 1 of the log of twelve, from 5 to 9.", frame(answer(TWELVE, 1, 5, 4, True))
+    target = b"\3" + be64(1) + root(TWELVE) + varint(5) + varint(12)
+    yield "TARGET", "The framed target of the log of twelve from 5 on, as answer 1.", frame(target)
+    short = [(0, 250), (100, 250), (200, 250), (250, 300)]
+    yield "ONE_BY_ONE", "The asks of a log of 300, one at a time.", asks(300, short)
+    two = [(0, 250), (250, 300), (100, 250), (200, 250)]
+    yield "TWO_AT_ONCE", "The asks of a log of 300, two at a time.", asks(300, two)
+
+
+if __name__ == "__main__":
+    print("//! Roots, frames and tapes in hexadecimal digits, as vectors/cases.py prints them.")
+    for name, words, data in constants():
+        print(f'\n/// {words}\npub(super) const {name}: &str =\n    "{data.hex()}";')
