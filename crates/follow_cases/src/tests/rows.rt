@@ -60,16 +60,34 @@ fn rests_are_asked_two_at_once(rt: HostRuntime) {
     assert_eq!(rt; asked(&rt, 2, TWO_AT_ONCE), all());
 }
 
-/// Whether the log of 120 operations refuses a range of 130 from `start` on, with this code and text.
-fn refuses(alloc: Global, start: u64, code: ErrorCode, text: &str) -> Option<bool> {
-    let log = deleting(alloc, 119)?;
-    let request = GetOperationsRequest {
+/// The request for one operation from `start` on in a log of so many.
+fn request(count: u64, start: u64) -> Option<GetOperationsRequest> {
+    Some(GetOperationsRequest {
         request_id: 9,
-        op_count: Location::new(130)?,
+        op_count: Location::new(count)?,
         start_loc: Location::new(start)?,
         max_ops: NonZeroU64::MIN,
         include_pinned_nodes: false,
-    };
+    })
+}
+
+/// Where a range of a log of 100 begins that is refused; None where it isn't.
+fn refused_range(start: u64) -> Option<u64> {
+    let refusal = request(100, start)?.validate().err()?;
+    Some(refusal.start.get())
+}
+
+#[test]
+fn a_range_begins_below_its_end(rt: HostRuntime) {
+    assert_eq!(rt; refused_range(10), None);
+    assert_eq!(rt; refused_range(100), Some(100));
+    assert_eq!(rt; refused_range(150), Some(150));
+}
+
+/// Whether the log of 120 operations refuses a range of 130 from `start` on, with this code and text.
+fn refuses(alloc: Global, start: u64, code: ErrorCode, text: &str) -> Option<bool> {
+    let log = deleting(alloc, 119)?;
+    let request = request(130, start)?;
     let reply = FullMode::reply(alloc, &log, Message::GetOperationsRequest(request)).ok()?;
     let Message::Error(refusal) = reply else {
         return None;
