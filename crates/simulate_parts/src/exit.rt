@@ -1,5 +1,5 @@
 //! The two exit conditions that are shipped.
-ghost use Rattle.std.specs.Prelude.{◌≡◌, Ok, codes};
+ghost use Rattle.std.specs.Prelude.{◌≡◌, Ok, codes, false, true};
 ghost use Rattle.simulate_parts.specs.Checks.{processed_by_all, reached_by_all};
 
 use crate::check::{CheckFault, ExitCondition};
@@ -37,6 +37,12 @@ impl ExitCondition for MinimumFinalizations {
 
     fn name(&self) -> &str {
         "minimum_finalizations"
+    }
+
+    fn requires_polling(&self) -> bool
+        ensures { result ≡ false }
+    {
+        false
     }
 
     fn reached(
@@ -81,7 +87,9 @@ impl ExitCondition for ProcessedHeightAtLeast {
         "processed_height_at_least"
     }
 
-    fn requires_polling(&self) -> bool {
+    fn requires_polling(&self) -> bool
+        ensures { result ≡ true }
+    {
         true
     }
 
