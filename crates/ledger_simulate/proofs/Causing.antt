@@ -120,7 +120,7 @@ end_asked crashes Idle asked = absurd (not_false asked)
 end_asked crashes (SkippedWindow height) asked = absurd (not_false asked)
 end_asked crashes (NotExercised index) asked = absurd (not_false asked)
 
-same_end : {A : Type 0} (x y : EndedView) → ◌≡◌ {A = Result A SimEnd} (Err (at_fault x)) (Err (at_fault y)) → x ≡ y
+pub same_end : {A : Type 0} (x y : EndedView) → ◌≡◌ {A = Result A SimEnd} (Err (at_fault x)) (Err (at_fault y)) → x ≡ y
 same_end x y e = cc
 
 no_end : {A : Type 0} (y : EndedView) → ◌≡◌ {A = Result A SimEnd} (Err at_memory) (Err (at_fault y)) → ⊥

@@ -1,3 +1,4 @@
+pub mod Answering
 pub mod Beginning
 pub mod Causing
 pub mod Each

@@ -1,6 +1,7 @@
 //! Asking the checks of a plan.
 ghost use Rattle.std.specs.Prelude.{◌≡◌, All, IfErr, IfOk, IsTrue, MatchOption, None, Ok, OnOk};
 ghost use Rattle.simulate_parts.specs.Checks.{reached_by_all};
+ghost use Rattle.ledger_simulate.specs.Answering.{IsComplaint, IsFailure, IsObjection};
 ghost use Rattle.ledger_simulate.specs.Causes.{stops_asked};
 ghost use Rattle.ledger_simulate.specs.Stops.{IsExitFault, IsFinalizationFault, IsPropertyFault, stops_late};
 
@@ -50,6 +51,7 @@ pub fn check_properties(
     states: &[StateView],
 ) -> Result<(), Stop>
     ensures ok { OnOk result (All (λ p. property_complaint p tracker.now states.now ≡ None) properties.now) }
+    ensures objects { IfErr result (IsObjection (λ p. property_name p) (λ p. property_complaint p) properties.now tracker.now states.now) }
     ensures asked { IfErr result (λ s. IsTrue (stops_asked s)) }
     ensures late { IfErr result (λ s. IsTrue (stops_late s)) }
 {
@@ -90,6 +92,7 @@ pub fn check_finalizations(
     states: &[StateView],
 ) -> Result<(), Stop>
     ensures ok { OnOk result (All (λ p. finalization_complaint p states.now ≡ None) properties.now) }
+    ensures complains { IfErr result (IsComplaint (λ p. finalization_name p) (λ p. finalization_complaint p) properties.now states.now) }
     ensures asked { IfErr result (λ s. IsTrue (stops_asked s)) }
     ensures late { IfErr result (λ s. IsTrue (stops_late s)) }
 {
@@ -135,6 +138,7 @@ pub fn ask_exit<D: EngineDefinition>(
     target_count: usize,
 ) -> Result<bool, Stop>
     ensures ok { IfOk result (λ reached. MatchOption plan.now.exit_condition (reached ≡ reached_by_all tracker.now target_count plan.now.required_finalizations) (λ c. exit_verdict c tracker.now states.now target_count ≡ Ok reached)) }
+    ensures fails { IfErr result (IsFailure (λ c. exit_name c) (λ c. exit_verdict c) plan.now.exit_condition tracker.now states.now target_count) }
     ensures asked { IfErr result (λ s. IsTrue (stops_asked s)) }
     ensures late { IfErr result (λ s. IsTrue (stops_late s)) }
 {

@@ -1,6 +1,9 @@
 //! What the reports of a step set off.
 ghost use Rattle.std.specs.Prelude.{◌≡◌, ◌++◌, ◌∷◌, [], Contains, IfErr, IfOk, IfSome, IsTrue, OnOk};
 ghost use Rattle.simulate_parts.specs.Engine.{updates_of};
+ghost use Rattle.simulate_parts.specs.Seats.{active_views};
+ghost use Rattle.simulate_parts.specs.Tracker.{tracker_of};
+ghost use Rattle.ledger_simulate.specs.Answering.{IsComplaint, IsFailure, StopAnswered};
 ghost use Rattle.ledger_simulate.specs.Causes.{StopComes, stops_asked};
 ghost use Rattle.ledger_simulate.specs.Handling.{Disturbs};
 ghost use Rattle.ledger_simulate.specs.Plans.{target_count};
@@ -58,6 +61,7 @@ pub fn ask<D: EngineDefinition>(
 ) -> Result<Option<Reached>, Stop>
     ensures reached { IfOk result (λ o. IfSome o (λ r. IsReached (λ c. exit_verdict c) plan.now.exit_condition plan.now.required_finalizations (target_count plan.now.participants plan.now.crashes world.now.exercise.delayed_started) watch.now r)) }
     ensures asked { IfErr result (λ s. IsTrue (stops_asked s)) }
+    ensures fails { IfErr result (IsFailure (λ c. exit_name c) (λ c. exit_verdict c) plan.now.exit_condition (tracker_of watch.now) states.items (target_count plan.now.participants plan.now.crashes world.now.exercise.delayed_started)) }
     ensures late { IfErr result (λ s. IsTrue (stops_late s)) }
 {
     match ask_exit(
@@ -94,6 +98,7 @@ fn take_report<D: EngineDefinition>(
     ensures updates { OnOk result (watch.new ≡ watch.old ++ update ∷ []) }
     ensures reached { IfOk result (λ o. IfSome o (λ r. IsReached (λ c. exit_verdict c) plan.now.exit_condition plan.now.required_finalizations (target_count plan.now.participants plan.now.crashes world.new.exercise.delayed_started) watch.new r)) }
     ensures comes { IfErr result (StopComes plan.now.crashes (λ u. u ≡ update) watch.old) }
+    ensures answered { IfErr result (StopAnswered (λ p. finalization_name p) (λ p. finalization_complaint p) (λ p. property_name p) (λ p. property_complaint p) (λ c. exit_name c) (λ c. exit_verdict c) plan.now.finalization_property plan.now.property plan.now.exit_condition plan.now.participants plan.now.crashes watch.old) }
     ensures late { IfErr result (λ s. IsTrue (stops_late s)) }
 {
     match watch.observe(update) {
@@ -117,6 +122,7 @@ fn take_report<D: EngineDefinition>(
 /// Checks the states of now.
 fn check_now<D: EngineDefinition>(plan: &Plan<D>, world: &World<D>) -> Result<Vec<StateView>, Stop>
     ensures asked { IfErr result (λ s. IsTrue (stops_asked s)) }
+    ensures complains { IfErr result (IsComplaint (λ p. finalization_name p) (λ p. finalization_complaint p) plan.now.finalization_property (active_views D.State.height_of D.State.bytes_of world.now.seats.entries)) }
     ensures late { IfErr result (λ s. IsTrue (stops_late s)) }
 {
     let states = match active_states(world.alloc, &world.seats) {
@@ -141,6 +147,7 @@ fn check_and_ask<D: EngineDefinition>(
 ) -> Result<Option<Reached>, Stop>
     ensures reached { IfOk result (λ o. IfSome o (λ r. IsReached (λ c. exit_verdict c) plan.now.exit_condition plan.now.required_finalizations (target_count plan.now.participants plan.now.crashes world.now.exercise.delayed_started) watch.now r)) }
     ensures asked { IfErr result (λ s. IsTrue (stops_asked s)) }
+    ensures answered { IfErr result (StopAnswered (λ p. finalization_name p) (λ p. finalization_complaint p) (λ p. property_name p) (λ p. property_complaint p) (λ c. exit_name c) (λ c. exit_verdict c) plan.now.finalization_property plan.now.property plan.now.exit_condition plan.now.participants plan.now.crashes watch.now) }
     ensures late { IfErr result (λ s. IsTrue (stops_late s)) }
 {
     match check_now(plan, world) {
@@ -158,6 +165,7 @@ fn drain_report<D: EngineDefinition>(
 ) -> Result<(), Stop>
     ensures updates { OnOk result (watch.new ≡ watch.old ++ update ∷ []) }
     ensures comes { IfErr result (StopComes plan.now.crashes (λ u. u ≡ update) watch.old) }
+    ensures answered { IfErr result (StopAnswered (λ p. finalization_name p) (λ p. finalization_complaint p) (λ p. property_name p) (λ p. property_complaint p) (λ c. exit_name c) (λ c. exit_verdict c) plan.now.finalization_property plan.now.property plan.now.exit_condition plan.now.participants plan.now.crashes watch.old) }
     ensures late { IfErr result (λ s. IsTrue (stops_late s)) }
 {
     match watch.observe(update) {
@@ -185,6 +193,7 @@ fn next_report<D: EngineDefinition>(
     ensures updates { OnOk result (watch.new ≡ watch.old ++ update ∷ []) }
     ensures reached { IfOk result (λ o. IfSome o (λ r. IsReached (λ c. exit_verdict c) plan.now.exit_condition plan.now.required_finalizations (target_count plan.now.participants plan.now.crashes world.new.exercise.delayed_started) watch.new r)) }
     ensures comes { IfErr result (StopComes plan.now.crashes (λ u. u ≡ update) watch.old) }
+    ensures answered { IfErr result (StopAnswered (λ p. finalization_name p) (λ p. finalization_complaint p) (λ p. property_name p) (λ p. property_complaint p) (λ c. exit_name c) (λ c. exit_verdict c) plan.now.finalization_property plan.now.property plan.now.exit_condition plan.now.participants plan.now.crashes watch.old) }
     ensures late { IfErr result (λ s. IsTrue (stops_late s)) }
 {
     match reached {
@@ -209,6 +218,7 @@ pub fn take_reports<D: EngineDefinition>(
     ensures updates { OnOk result (watch.new ≡ watch.old ++ updates.items) }
     ensures reached { IfOk result (λ o. IfSome o (λ r. IsReached (λ c. exit_verdict c) plan.now.exit_condition plan.now.required_finalizations (target_count plan.now.participants plan.now.crashes world.new.exercise.delayed_started) watch.new r)) }
     ensures comes { IfErr result (StopComes plan.now.crashes (Contains updates.items) watch.old) }
+    ensures answered { IfErr result (StopAnswered (λ p. finalization_name p) (λ p. finalization_complaint p) (λ p. property_name p) (λ p. property_complaint p) (λ c. exit_name c) (λ c. exit_verdict c) plan.now.finalization_property plan.now.property plan.now.exit_condition plan.now.participants plan.now.crashes watch.old) }
     ensures late { IfErr result (λ s. IsTrue (stops_late s)) }
 {
     let mut reached = None;

@@ -8,6 +8,7 @@ ghost use Rattle.simulate_parts.specs.Seats.{runs};
 ghost use Rattle.simulate_parts.specs.Team.{others};
 ghost use Rattle.simulate_parts.specs.Tracker.{first_fault, tracker_of};
 ghost use Rattle.simulate_parts.specs.declared.engine.StepOut.{StepOut};
+ghost use Rattle.ledger_simulate.specs.Answering.{Answered, StopAnswered};
 ghost use Rattle.ledger_simulate.specs.Causes.{Comes, EndComes, StopComes, stops_asked};
 ghost use Rattle.ledger_simulate.specs.Handling.{Disturbs, Gives, Grows, Handles, Seated, Stirs, Tells, birth_at, number_after};
 ghost use Rattle.ledger_simulate.specs.Links.{changed_links, common_link};
@@ -125,6 +126,7 @@ impl<'a, D: EngineDefinition> Simulation<'a, D> {
         ensures early { IfSome (early_fault (first_key self.entry.queue) self.entry.handled self.entry.plan.now.max_events self.entry.plan.now.timeout) (λ f. result ≡ Err (SimEnd.Fault (record { fault = f; seed = self.entry.seed; handled = self.entry.handled; max_events = self.entry.plan.now.max_events; timeout = self.entry.plan.now.timeout }))) }
         ensures late { (e : EndedView) → early_fault (first_key self.entry.queue) self.entry.handled self.entry.plan.now.max_events self.entry.plan.now.timeout ≡ None → result ≡ Err (SimEnd.Fault e) → (IsTrue (is_late e.fault)) × (e.handled ≡ self.entry.handled + 1) × (e.seed ≡ self.entry.seed) × (e.max_events ≡ self.entry.plan.now.max_events) × (e.timeout ≡ self.entry.plan.now.timeout) }
         ensures comes { (e : EndedView) → early_fault (first_key self.entry.queue) self.entry.handled self.entry.plan.now.max_events self.entry.plan.now.timeout ≡ None → result ≡ Err (SimEnd.Fault e) → Comes self.entry.plan.now.crashes (λ u. Seated (D.peer_of self.entry.plan.now.engine) self.entry.queue.next self.entry.world.seats.entries → Passes (D.reports self.entry.plan.now.engine) u) self.entry.watch e.fault }
+        ensures answered { (e : EndedView) → early_fault (first_key self.entry.queue) self.entry.handled self.entry.plan.now.max_events self.entry.plan.now.timeout ≡ None → result ≡ Err (SimEnd.Fault e) → Answered (λ p. finalization_name p) (λ p. finalization_complaint p) (λ p. property_name p) (λ p. property_complaint p) (λ c. exit_name c) (λ c. exit_verdict c) self.entry.plan.now.finalization_property self.entry.plan.now.property self.entry.plan.now.exit_condition self.entry.plan.now.participants self.entry.plan.now.crashes self.entry.watch e.fault }
         ensures ended { (e : EndedView) → result ≡ Err (SimEnd.Fault e) → (e.seed ≡ self.entry.seed) × (e.max_events ≡ self.entry.plan.now.max_events) × (e.timeout ≡ self.entry.plan.now.timeout) }
         ensures on { (next : _) → result ≡ Ok (Stepped.On next) → Proceeds (D.peer_of self.entry.plan.now.engine) (D.journal self.entry.plan.now.engine) (D.reports self.entry.plan.now.engine) self.entry.queue next.queue self.entry.watch next.watch self.entry.world next.world × (next.handled ≡ self.entry.handled + 1) × (self.entry.handled < self.entry.plan.now.max_events) × (next.seed ≡ self.entry.seed) × (next.plan ≡ self.entry.plan) }
         ensures done { (r : ResultView) → result ≡ Ok (Stepped.Done r) → Extends self.entry.watch r.updates × (r.handled ≡ self.entry.handled + 1) × (r.seed ≡ self.entry.seed) × (r.max_events ≡ self.entry.plan.now.max_events) × (r.timeout ≡ self.entry.plan.now.timeout) }
@@ -149,6 +151,7 @@ impl<'a, D: EngineDefinition> Simulation<'a, D> {
         requires below { self.handled < self.plan.now.max_events }
         ensures late { (e : EndedView) → result ≡ Err (SimEnd.Fault e) → (IsTrue (is_late e.fault)) × (e.handled ≡ self.entry.handled + 1) × (e.seed ≡ self.entry.seed) × (e.max_events ≡ self.entry.plan.now.max_events) × (e.timeout ≡ self.entry.plan.now.timeout) }
         ensures comes { (e : EndedView) → result ≡ Err (SimEnd.Fault e) → Comes self.entry.plan.now.crashes (λ u. Seated (D.peer_of self.entry.plan.now.engine) self.entry.queue.next self.entry.world.seats.entries → Passes (D.reports self.entry.plan.now.engine) u) self.entry.watch e.fault }
+        ensures answered { (e : EndedView) → result ≡ Err (SimEnd.Fault e) → Answered (λ p. finalization_name p) (λ p. finalization_complaint p) (λ p. property_name p) (λ p. property_complaint p) (λ c. exit_name c) (λ c. exit_verdict c) self.entry.plan.now.finalization_property self.entry.plan.now.property self.entry.plan.now.exit_condition self.entry.plan.now.participants self.entry.plan.now.crashes self.entry.watch e.fault }
         ensures on { (next : _) → result ≡ Ok (Stepped.On next) → Proceeds (D.peer_of self.entry.plan.now.engine) (D.journal self.entry.plan.now.engine) (D.reports self.entry.plan.now.engine) self.entry.queue next.queue self.entry.watch next.watch self.entry.world next.world × (next.handled ≡ self.entry.handled + 1) × (next.seed ≡ self.entry.seed) × (next.plan ≡ self.entry.plan) }
         ensures done { (r : ResultView) → result ≡ Ok (Stepped.Done r) → Extends self.entry.watch r.updates × (r.handled ≡ self.entry.handled + 1) × (r.seed ≡ self.entry.seed) × (r.max_events ≡ self.entry.plan.now.max_events) × (r.timeout ≡ self.entry.plan.now.timeout) }
         ensures success { (r : ResultView) → result ≡ Ok (Stepped.Done r) → Succeeds (λ c. exit_verdict c) (λ p. property_complaint p) self.entry.plan.now.participants self.entry.plan.now.crashes self.entry.plan.now.exit_condition self.entry.plan.now.required_finalizations self.entry.plan.now.property r }
@@ -192,6 +195,7 @@ impl<'a, D: EngineDefinition> Simulation<'a, D> {
         requires { IsReached (λ c. exit_verdict c) self.plan.now.exit_condition self.plan.now.required_finalizations (target_count self.plan.now.participants self.plan.now.crashes self.world.exercise.delayed_started) self.watch reached }
         ensures late { (e : EndedView) → result ≡ Err (SimEnd.Fault e) → (IsTrue (is_late e.fault)) × (e.handled ≡ self.entry.handled) × (e.seed ≡ self.entry.seed) × (e.max_events ≡ self.entry.plan.now.max_events) × (e.timeout ≡ self.entry.plan.now.timeout) }
         ensures comes { (e : EndedView) → result ≡ Err (SimEnd.Fault e) → EndComes self.entry.plan.now.crashes e.fault }
+        ensures answered { (e : EndedView) → result ≡ Err (SimEnd.Fault e) → Answered (λ p. finalization_name p) (λ p. finalization_complaint p) (λ p. property_name p) (λ p. property_complaint p) (λ c. exit_name c) (λ c. exit_verdict c) self.entry.plan.now.finalization_property self.entry.plan.now.property self.entry.plan.now.exit_condition self.entry.plan.now.participants self.entry.plan.now.crashes self.entry.watch e.fault }
         ensures on { (next : _) → result ≡ Ok (Stepped.On next) → ⊥ }
         ensures done { (r : ResultView) → result ≡ Ok (Stepped.Done r) → (r.updates ≡ self.entry.watch) × (r.handled ≡ self.entry.handled) × (r.seed ≡ self.entry.seed) × (r.max_events ≡ self.entry.plan.now.max_events) × (r.timeout ≡ self.entry.plan.now.timeout) }
         ensures success { (r : ResultView) → result ≡ Ok (Stepped.Done r) → Succeeds (λ c. exit_verdict c) (λ p. property_complaint p) self.entry.plan.now.participants self.entry.plan.now.crashes self.entry.plan.now.exit_condition self.entry.plan.now.required_finalizations self.entry.plan.now.property r }
@@ -445,6 +449,7 @@ fn handle<D: EngineDefinition>(
     ensures updates { OnOk result (Extends watch.old watch.new) }
     ensures reached { IfOk result (λ o. IfSome o (λ r. IsReached (λ c. exit_verdict c) plan.now.exit_condition plan.now.required_finalizations (target_count plan.now.participants plan.now.crashes world.new.exercise.delayed_started) watch.new r)) }
     ensures comes { IfErr result (StopComes plan.now.crashes (λ u. Seated (D.peer_of plan.now.engine) (number_after agenda.old) world.old.seats.entries → Passes (D.reports plan.now.engine) u) watch.old) }
+    ensures answered { IfErr result (StopAnswered (λ p. finalization_name p) (λ p. finalization_complaint p) (λ p. property_name p) (λ p. property_complaint p) (λ c. exit_name c) (λ c. exit_verdict c) plan.now.finalization_property plan.now.property plan.now.exit_condition plan.now.participants plan.now.crashes watch.old) }
     ensures late { IfErr result (λ s. IsTrue (stops_late s)) }
 {
     match event {
@@ -550,6 +555,7 @@ fn poll<D: EngineDefinition>(
     ensures stirs { OnOk result (Stirs (D.peer_of plan.now.engine) agenda.old agenda.new world.now world.now) }
     ensures reached { IfOk result (λ o. IfSome o (λ r. IsReached (λ c. exit_verdict c) plan.now.exit_condition plan.now.required_finalizations (target_count plan.now.participants plan.now.crashes world.now.exercise.delayed_started) watch.now r)) }
     ensures asked { IfErr result (λ s. IsTrue (stops_asked s)) }
+    ensures answered { IfErr result (StopAnswered (λ p. finalization_name p) (λ p. finalization_complaint p) (λ p. property_name p) (λ p. property_complaint p) (λ c. exit_name c) (λ c. exit_verdict c) plan.now.finalization_property plan.now.property plan.now.exit_condition plan.now.participants plan.now.crashes watch.now) }
     ensures late { IfErr result (λ s. IsTrue (stops_late s)) }
 {
     match polled_states(world, agenda) {
@@ -600,6 +606,7 @@ fn step_at<D: EngineDefinition>(
     ensures updates { OnOk result (Extends watch.old watch.new) }
     ensures reached { IfOk result (λ o. IfSome o (λ r. IsReached (λ c. exit_verdict c) plan.now.exit_condition plan.now.required_finalizations (target_count plan.now.participants plan.now.crashes world.new.exercise.delayed_started) watch.new r)) }
     ensures comes { IfErr result (StopComes plan.now.crashes (λ u. Seated (D.peer_of plan.now.engine) (number_after agenda.old) world.old.seats.entries → Passes (D.reports plan.now.engine) u) watch.old) }
+    ensures answered { IfErr result (StopAnswered (λ p. finalization_name p) (λ p. finalization_complaint p) (λ p. property_name p) (λ p. property_complaint p) (λ c. exit_name c) (λ c. exit_verdict c) plan.now.finalization_property plan.now.property plan.now.exit_condition plan.now.participants plan.now.crashes watch.old) }
     ensures late { IfErr result (λ s. IsTrue (stops_late s)) }
 {
     let Told { pk, birth, event } = told;

@@ -1,4 +1,5 @@
 use Rattle.std.proofs.Common.{◌≡◌, None}
+use Rattle.ledger_simulate.proofs.Answering.{objection_at}
 use Rattle.ledger_simulate.proofs.Each.{All_more, All_whole}
 use Rattle.ledger_simulate.proofs.asks.check_properties.Goals as goal
 
@@ -11,3 +12,8 @@ pub returns-clause-ok : goal.returns-clause-ok
 returns-clause-ok g c =
     All_whole (λ p. (goal.Property-dyn g (p.vtable, p.value)).property_complaint p.value c.args.tracker.now c.args.states.now ≡ None) c.args.properties.now c.loop-property.property-index
     c.loop-property-test.false c.loop-property.invariant
+
+pub returns-in-Err-clause-objects : goal.returns-in-Err-clause-objects
+returns-in-Err-clause-objects g c =
+    objection_at (λ p. (goal.Property-dyn g (p.vtable, p.value)).property_name p.value) (λ p. (goal.Property-dyn g (p.vtable, p.value)).property_complaint p.value) c.args.properties.now c.args.tracker.now c.args.states.now
+    c.loop-property.property-index c.property-item.result c.in-Err.stop c.loop-property-test.true c.property-item.is c.in-Err.ensures.err

@@ -1,6 +1,7 @@
-use Rattle.std.proofs.Common.{◌≡◌}
+use Rattle.std.proofs.Common.{◌≡◌, ◌∷◌, []}
 use Rattle.ledger_simulate.proofs.Causing.{stop_asked, stop_forks, stop_skips}
 use Rattle.ledger_simulate.proofs.Stirring.{disturbs_then}
+use Rattle.ledger_simulate.proofs.Answering.{stop_answered_since}
 use Rattle.ledger_simulate.proofs.reports.take_report.Goals as goal
 
 pub returns-in-Ok-start_delayed-clause-disturbs : goal.returns-in-Ok-start_delayed-clause-disturbs
@@ -16,3 +17,8 @@ returns-in-Err-enter_windows-clause-comes g c = stop_skips c.args.plan.now.crash
 
 pub returns-in-Err-check_and_ask-clause-comes : goal.returns-in-Err-check_and_ask-clause-comes
 returns-in-Err-check_and_ask-clause-comes g c = stop_asked c.args.plan.now.crashes (λ u. u ≡ c.args.update) c.args.watch.now c.in-Err-check_and_ask.stop c.in-Err-check_and_ask.ensures.asked
+
+pub returns-in-Err-check_and_ask-clause-answered : goal.returns-in-Err-check_and_ask-clause-answered
+returns-in-Err-check_and_ask-clause-answered g c =
+    stop_answered_since (λ x. (goal.FinalizationProperty-dyn g (x.vtable, x.value)).finalization_name x.value) (λ x. (goal.FinalizationProperty-dyn g (x.vtable, x.value)).finalization_complaint x.value) (λ x. (goal.Property-dyn g (x.vtable, x.value)).property_name x.value) (λ x. (goal.Property-dyn g (x.vtable, x.value)).property_complaint x.value) (λ x. (goal.ExitCondition-dyn g (x.vtable, x.value)).exit_name x.value) (λ x. (goal.ExitCondition-dyn g (x.vtable, x.value)).exit_verdict x.value) c.args.plan.now.finalization_property c.args.plan.now.property c.args.plan.now.exit_condition c.args.plan.now.participants c.args.plan.now.crashes
+    c.args.watch.now c.observe.new.self (c.args.update ∷ []) c.in-Ok.ensures.ok c.in-Err-check_and_ask.stop c.in-Err-check_and_ask.ensures.answered

@@ -4,6 +4,7 @@ use Rattle.std.proofs.lemmas.List.{append_assoc}
 use Rattle.ledger_simulate.proofs.Causing.{among_first, among_more, stop_wider}
 use Rattle.ledger_simulate.proofs.Reaches.{updates_more}
 use Rattle.ledger_simulate.proofs.Stirring.{disturbs_then}
+use Rattle.ledger_simulate.proofs.Answering.{stop_answered_since}
 use Rattle.ledger_simulate.proofs.reports.take_reports.Goals as goal
 
 pub loop-update-preserved : goal.loop-update-preserved
@@ -25,3 +26,8 @@ returns-in-Err-clause-comes g c =
     stop_wider c.args.plan.now.crashes (λ u. u ≡ c.in-Some.update) (Contains c.args.updates.items) c.args.watch.now c.loop-update.watch c.loop-update.invariant.since.0 c.loop-update.invariant.since.1
     (λ u same. c.loop-update.invariant.among u (subst (Contains (into_iter_items c.loop-update.update-iterator)) (sym same) (among_first (into_iter_items c.loop-update.update-iterator) (into_iter_items c.next.new.self) c.in-Some.update c.in-Some.ensures.steps.0)))
     c.in-Err.stop c.in-Err.ensures.comes
+
+pub returns-in-Err-clause-answered : goal.returns-in-Err-clause-answered
+returns-in-Err-clause-answered g c =
+    stop_answered_since (λ x. (goal.FinalizationProperty-dyn g (x.vtable, x.value)).finalization_name x.value) (λ x. (goal.FinalizationProperty-dyn g (x.vtable, x.value)).finalization_complaint x.value) (λ x. (goal.Property-dyn g (x.vtable, x.value)).property_name x.value) (λ x. (goal.Property-dyn g (x.vtable, x.value)).property_complaint x.value) (λ x. (goal.ExitCondition-dyn g (x.vtable, x.value)).exit_name x.value) (λ x. (goal.ExitCondition-dyn g (x.vtable, x.value)).exit_verdict x.value) c.args.plan.now.finalization_property c.args.plan.now.property c.args.plan.now.exit_condition c.args.plan.now.participants c.args.plan.now.crashes
+    c.args.watch.now c.loop-update.watch c.loop-update.invariant.since.0 c.loop-update.invariant.since.1 c.in-Err.stop c.in-Err.ensures.answered

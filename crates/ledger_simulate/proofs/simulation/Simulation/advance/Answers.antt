@@ -6,6 +6,7 @@ use Rattle.ledger_simulate.specs.Handling.{Seated, number_after}
 use Rattle.ledger_simulate.specs.Queue.{empty_agenda}
 use Rattle.ledger_simulate.proofs.Causing.{ends_by, stop_wider}
 use Rattle.ledger_simulate.proofs.Proceeding.{goes_on, grows_by, seated_begun}
+use Rattle.ledger_simulate.proofs.Answering.{answered_since}
 use Rattle.ledger_simulate.proofs.simulation.Simulation.advance.Goals as goal
 
 pub returns-in-Ok-None-clause-on : goal.returns-in-Ok-None-clause-on
@@ -38,3 +39,8 @@ returns-clause-comes g c = λ e h.
     may (seated_begun (g.D.EngineDefinition.peer_of engine) (g.D.EngineDefinition.journal engine) (g.D.EngineDefinition.reports engine) c.args.self.queue c.take.new.self c.in-Some.entry c.new-agenda.result c.args.self.world c.in-Some.ensures.taken
     (c.new-agenda.ensures ∙ ap empty_agenda c.next.ensures) seated))
     c.in-Err.stop c.in-Err.ensures.comes)
+
+pub returns-in-Ok-Some-clause-answered : goal.returns-in-Ok-Some-clause-answered
+returns-in-Ok-Some-clause-answered g c = λ e h.
+    answered_since (λ x. (goal.FinalizationProperty-dyn g (x.vtable, x.value)).finalization_name x.value) (λ x. (goal.FinalizationProperty-dyn g (x.vtable, x.value)).finalization_complaint x.value) (λ x. (goal.Property-dyn g (x.vtable, x.value)).property_name x.value) (λ x. (goal.Property-dyn g (x.vtable, x.value)).property_complaint x.value) (λ x. (goal.ExitCondition-dyn g (x.vtable, x.value)).exit_name x.value) (λ x. (goal.ExitCondition-dyn g (x.vtable, x.value)).exit_verdict x.value) c.args.self.plan.now.finalization_property c.args.self.plan.now.property c.args.self.plan.now.exit_condition c.args.self.plan.now.participants c.args.self.plan.now.crashes
+    c.args.self.watch c.handle-outcome.new.watch c.in-Ok-Some.ensures.updates.added c.in-Ok-Some.ensures.updates.is e.fault (c.finish.ensures.answered e h)

@@ -1,0 +1,143 @@
+-- What checks answered, said of more.
+use Rattle.std.proofs.Common.{◌≡◌, ◌<◌, ◌⊎◌, inl, inr, ◌++◌, ℕ, Bool, List, [], MatchOption, Option, Some, None, Contains, IfErr, Result, Ok, Err, length, get_or, refl, sym, ap, ◌∙◌, subst}
+use Rattle.std.proofs.lemmas.List.{append_assoc, append-nil}
+use Rattle.std.proofs.lemmas.List.Elements.{Contains-get_or}
+use Rattle.simulate_parts.specs.Tracker.{observe_fault, tracker_of}
+use Rattle.simulate_parts.specs.TrackerView.{TrackerView}
+use Rattle.simulate_parts.specs.declared.engine.StateView.{StateView}
+use Rattle.simulate_parts.specs.declared.peer.Peer.{Peer}
+use Rattle.simulate_parts.specs.declared.schedule.Crash.{Crash}
+use Rattle.simulate_parts.specs.declared.tracker.FinalizationUpdate.{FinalizationUpdate}
+use Rattle.simulate_parts.specs.declared.tracker.ObserveFault.{ObserveFault}
+use Rattle.ledger_simulate.specs.Answering.{Answered, Fails, IsComplaint, IsFailure, IsObjection, Objects, StopAnswered}
+use Rattle.ledger_simulate.specs.Causes.{Skips}
+use Rattle.ledger_simulate.specs.Plans.{target_count}
+use Rattle.ledger_simulate.specs.Stops.{IsExitFault, IsFinalizationFault, IsForkOf, IsPropertyFault}
+use Rattle.ledger_simulate.proofs.Causing.{same_end}
+use Rattle.ledger_simulate.specs.declared.fault.PlanFault.{PlanFault}
+use Rattle.ledger_simulate.specs.declared.fault.PlanFault.TheVariants.{EventLimit, Exit, FinalizationProperty, Fork, Idle, NotExercised, Property, SkippedWindow, Timeout}
+use Rattle.ledger_simulate.specs.Results.{EndedView}
+use Rattle.ledger_simulate.specs.declared.result.SimEnd.{SimEnd}
+use Rattle.ledger_simulate.specs.declared.result.SimEnd.TheVariants.{Fault as at_fault}
+use Rattle.ledger_simulate.specs.declared.fault.Stop.{Stop}
+use Rattle.ledger_simulate.specs.declared.fault.Stop.TheVariants.{Fault, OutOfMemory}
+
+-- the check at a place of the list
+pub complaint_at : {F : Type 0} (called : F → List ℕ) (complaint : F → List StateView → Option (List ℕ)) (checks : List F) (states : List StateView) (i : ℕ) (c : F) (s : Stop) → i < length checks → c ≡ get_or checks i c → IsFinalizationFault (called c) (complaint c states) s → IsComplaint called complaint checks states s
+complaint_at called complaint checks states i c s within at (inl short) = inl short
+complaint_at called complaint checks states i c s within at (inr found) = inr (
+  called c,
+  found.0,
+  found.2,
+  record { check = c; among = subst (Contains checks) (sym at) (Contains-get_or checks i c within); named = refl; says = found.1 },
+)
+
+-- the property at a place of the list
+pub objection_at : {P : Type 0} (called : P → List ℕ) (complaint : P → TrackerView → List StateView → Option (List ℕ)) (properties : List P) (tracker : TrackerView) (states : List StateView) (i : ℕ) (c : P) (s : Stop) → i < length properties → c ≡ get_or properties i c → IsPropertyFault (called c) (complaint c tracker states) s → IsObjection called complaint properties tracker states s
+objection_at called complaint properties tracker states i c s within at (inl short) = inl short
+objection_at called complaint properties tracker states i c s within at (inr found) = inr (
+  called c,
+  found.0,
+  found.2,
+  record { property = c; among = subst (Contains properties) (sym at) (Contains-get_or properties i c within); named = refl; says = found.1 },
+)
+
+-- the condition that is set
+pub failure_of : {C : Type 0} (called : C → List ℕ) (verdict : C → TrackerView → List StateView → ℕ → Result Bool (List ℕ)) (condition : Option C) (tracker : TrackerView) (states : List StateView) (target : ℕ) (c : C) (s : Stop) → condition ≡ Some c → IsExitFault (called c) (verdict c tracker states target) s → IsFailure called verdict condition tracker states target s
+failure_of called verdict condition tracker states target c s set (inl short) = inl short
+failure_of called verdict condition tracker states target c s set (inr found) = inr (called c, found.0, found.2, record { asked = c; set = set; named = refl; says = found.1 })
+
+-- complaints on equal values
+pub complaint_on : {F : Type 0} (called : F → List ℕ) (complaint : F → List StateView → Option (List ℕ)) (xs ys : List F) (vs ws : List StateView) (s : Stop) → xs ≡ ys → vs ≡ ws → IsComplaint called complaint xs vs s → IsComplaint called complaint ys ws s
+complaint_on called complaint xs ys vs ws s lists states found = subst (λ zs. IsComplaint called complaint zs ws s) lists (subst (λ us. IsComplaint called complaint xs us s) states found)
+
+-- failures on equal values
+pub failure_on : {C : Type 0} (called : C → List ℕ) (verdict : C → TrackerView → List StateView → ℕ → Result Bool (List ℕ)) (condition : Option C) (t u : TrackerView) (vs ws : List StateView) (m n : ℕ) (s : Stop) → t ≡ u → vs ≡ ws → m ≡ n → IsFailure called verdict condition t vs m s → IsFailure called verdict condition u ws n s
+failure_on called verdict condition t u vs ws m n s trackers states targets found =
+    subst (λ k. IsFailure called verdict condition u ws k s) targets
+    (subst (λ us. IsFailure called verdict condition u us m s) states (subst (λ v. IsFailure called verdict condition v vs m s) trackers found))
+
+-- objections on equal values
+pub objection_on : {P : Type 0} (called : P → List ℕ) (complaint : P → TrackerView → List StateView → Option (List ℕ)) (xs ys : List P) (t u : TrackerView) (vs ws : List StateView) (s : Stop) → xs ≡ ys → t ≡ u → vs ≡ ws → IsObjection called complaint xs t vs s → IsObjection called complaint ys u ws s
+objection_on called complaint xs ys t u vs ws s lists trackers states found =
+    subst (λ zs. IsObjection called complaint zs u ws s) lists
+    (subst (λ us. IsObjection called complaint xs u us s) states (subst (λ v. IsObjection called complaint xs v vs s) trackers found))
+
+-- the fault that an end shows
+pub fault_shown : {A : Type 0} (end : SimEnd) (whole e : EndedView) → end ≡ at_fault whole → ◌≡◌ {A = Result A SimEnd} (Err end) (Err (at_fault e)) → whole.fault ≡ e.fault
+fault_shown {A} end whole e is shown = ap (λ (x : EndedView). x.fault) (same_end {A = A} whole e (ap (λ (x : SimEnd). Err x) (sym is) ∙ shown))
+
+module _ {F P C : Type 0} (fname : F → List ℕ) (fsays : F → List StateView → Option (List ℕ)) (pname : P → List ℕ) (psays : P → TrackerView → List StateView → Option (List ℕ)) (cname : C → List ℕ) (csays : C → TrackerView → List StateView → ℕ → Result Bool (List ℕ)) (checks : List F) (properties : List P) (condition : Option C) (participants : List Peer) (crashes : List Crash) where
+  -- want of memory
+  pub answered_short : (before : List FinalizationUpdate) (s : Stop) → s ≡ OutOfMemory → StopAnswered fname fsays pname psays cname csays checks properties condition participants crashes before s
+  answered_short before s is = subst (StopAnswered fname fsays pname psays cname csays checks properties condition participants crashes before) (sym is) tt
+
+  -- a check at a report
+  pub answered_complains : (before : List FinalizationUpdate) (states : List StateView) (s : Stop) → IsComplaint fname fsays checks states s → StopAnswered fname fsays pname psays cname csays checks properties condition participants crashes before s
+  answered_complains before states s (inl is) = answered_short before s is
+  answered_complains before states s (inr found) =
+      subst (StopAnswered fname fsays pname psays cname csays checks properties condition participants crashes before) (sym found.2) (states, found.3)
+
+  -- the exit condition
+  pub answered_fails : (before : List FinalizationUpdate) (states : List StateView) (started : Bool) (s : Stop) → IsFailure cname csays condition (tracker_of before) states (target_count participants crashes started) s → StopAnswered fname fsays pname psays cname csays checks properties condition participants crashes before s
+  answered_fails before states started s (inl is) = answered_short before s is
+  answered_fails before states started s (inr found) =
+      let none : before ≡ before ++ [] = sym (append-nil before) in
+      let fails : Fails cname csays condition (tracker_of (before ++ [])) states (target_count participants crashes started) found.0 found.1 =
+      subst (λ us. Fails cname csays condition (tracker_of us) states (target_count participants crashes started) found.0 found.1) none found.3 in
+      subst (StopAnswered fname fsays pname psays cname csays checks properties condition participants crashes before) (sym found.2) ([], states, started, fails)
+
+  -- a property of the end
+  pub answered_objects : (before : List FinalizationUpdate) (states : List StateView) (s : Stop) (f : PlanFault) → s ≡ Fault f → IsObjection pname psays properties (tracker_of before) states s → Answered fname fsays pname psays cname csays checks properties condition participants crashes before f
+  answered_objects before states s f is objects =
+      subst (StopAnswered fname fsays pname psays cname csays checks properties condition participants crashes before) is (by_stop s objects)
+    where
+      by_stop : (s : Stop) → IsObjection pname psays properties (tracker_of before) states s → StopAnswered fname fsays pname psays cname csays checks properties condition participants crashes before s
+      by_stop s (inl is) = answered_short before s is
+      by_stop s (inr found) =
+          subst (StopAnswered fname fsays pname psays cname csays checks properties condition participants crashes before) (sym found.2)
+          ([], states, subst (λ us. Objects pname psays properties (tracker_of us) states found.0 found.1) (sym (append-nil before)) found.3)
+
+  -- a refused report
+  pub answered_forks : (before : List FinalizationUpdate) (update : FinalizationUpdate) (s : Stop) → IsForkOf before update s → StopAnswered fname fsays pname psays cname csays checks properties condition participants crashes before s
+  answered_forks before update s forks = by_fault (observe_fault (tracker_of before) update) forks
+    where
+      by_fault : (o : Option ObserveFault) → MatchOption o (s ≡ OutOfMemory) (λ fault. (s ≡ OutOfMemory) ⊎ (s ≡ Fault (Fork update fault))) → StopAnswered fname fsays pname psays cname csays checks properties condition participants crashes before s
+      by_fault None short = answered_short before s short
+      by_fault (Some fault) (inl short) = answered_short before s short
+      by_fault (Some fault) (inr fork) = subst (StopAnswered fname fsays pname psays cname csays checks properties condition participants crashes before) (sym fork) tt
+
+  -- a window that was skipped
+  pub answered_skips : (before : List FinalizationUpdate) (s : Stop) → (s ≡ OutOfMemory) ⊎ ((height : ℕ) × (s ≡ Fault (SkippedWindow height)) × Skips crashes height) → StopAnswered fname fsays pname psays cname csays checks properties condition participants crashes before s
+  answered_skips before s (inl is) = answered_short before s is
+  answered_skips before s (inr skips) = subst (StopAnswered fname fsays pname psays cname csays checks properties condition participants crashes before) (sym skips.1) tt
+
+  -- from an earlier time on
+  pub answered_since : (before now done : List FinalizationUpdate) → now ≡ before ++ done → (f : PlanFault) → Answered fname fsays pname psays cname csays checks properties condition participants crashes now f → Answered fname fsays pname psays cname csays checks properties condition participants crashes before f
+  answered_since before now done since (FinalizationProperty name text) said = said
+  answered_since before now done since (Property name text) said = (
+    done ++ said.0,
+    said.1,
+    subst (λ us. Objects pname psays properties (tracker_of us) said.1 name text) (ap (λ us. us ++ said.0) since ∙ append_assoc before done said.0) said.2,
+  )
+  answered_since before now done since (Exit name text) said = (
+    done ++ said.0,
+    said.1,
+    said.2,
+    subst (λ us. Fails cname csays condition (tracker_of us) said.1 (target_count participants crashes said.2) name text) (ap (λ us. us ++ said.0) since ∙ append_assoc before done said.0) said.3,
+  )
+  answered_since before now done since (Fork update fault) said = tt
+  answered_since before now done since Timeout said = tt
+  answered_since before now done since EventLimit said = tt
+  answered_since before now done since Idle said = tt
+  answered_since before now done since (SkippedWindow height) said = tt
+  answered_since before now done since (NotExercised index) said = tt
+
+  pub stop_answered_since : (before now done : List FinalizationUpdate) → now ≡ before ++ done → (s : Stop) → StopAnswered fname fsays pname psays cname csays checks properties condition participants crashes now s → StopAnswered fname fsays pname psays cname csays checks properties condition participants crashes before s
+  stop_answered_since before now done since (Fault fault) said = answered_since before now done since fault said
+  stop_answered_since before now done since OutOfMemory said = tt
+
+  -- a refusal by the exit condition alone
+  pub if_answered_fails : {A : Type 0} (before : List FinalizationUpdate) (states : List StateView) (started : Bool) (r : Result A Stop) → IfErr r (IsFailure cname csays condition (tracker_of before) states (target_count participants crashes started)) → IfErr r (StopAnswered fname fsays pname psays cname csays checks properties condition participants crashes before)
+  if_answered_fails before states started (Ok a) fact = tt
+  if_answered_fails before states started (Err s) fact = answered_fails before states started s fact

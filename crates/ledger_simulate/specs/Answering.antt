@@ -1,0 +1,71 @@
+-- What the checks of a plan answered, where one of them ends a run.
+use Rattle.std.specs.Prelude.{◌≡◌, ◌⊎◌, ℕ, Bool, List, ◌++◌, Option, Some, Result, Err, Contains}
+use Rattle.simulate_parts.specs.Tracker.{tracker_of}
+use Rattle.simulate_parts.specs.TrackerView.{TrackerView}
+use Rattle.simulate_parts.specs.declared.engine.StateView.{StateView}
+use Rattle.simulate_parts.specs.declared.peer.Peer.{Peer}
+use Rattle.simulate_parts.specs.declared.schedule.Crash.{Crash}
+use Rattle.simulate_parts.specs.declared.tracker.FinalizationUpdate.{FinalizationUpdate}
+use Rattle.ledger_simulate.specs.Plans.{target_count}
+use Rattle.ledger_simulate.specs.declared.fault.PlanFault.{PlanFault}
+use Rattle.ledger_simulate.specs.declared.fault.PlanFault.TheVariants.{EventLimit, Exit, FinalizationProperty, Fork, Idle, NotExercised, Property, SkippedWindow, Timeout}
+use Rattle.ledger_simulate.specs.declared.fault.Stop.{Stop}
+use Rattle.ledger_simulate.specs.declared.fault.Stop.TheVariants.{Fault, OutOfMemory}
+
+-- one of these checks has this name and complains of the states by this text
+pub record Complains {F : Type 0} (called : F → List ℕ) (complaint : F → List StateView → Option (List ℕ)) (checks : List F) (states : List StateView) (name text : List ℕ) : Type 0 where
+  pub check : F
+  pub among : Contains checks check
+  pub named : called check ≡ name
+  pub says : complaint check states ≡ Some text
+
+-- one of these properties has this name and complains of the tracker and the states by this text
+pub record Objects {P : Type 0} (called : P → List ℕ) (complaint : P → TrackerView → List StateView → Option (List ℕ)) (properties : List P) (tracker : TrackerView) (states : List StateView) (name text : List ℕ) : Type 0 where
+  pub property : P
+  pub among : Contains properties property
+  pub named : called property ≡ name
+  pub says : complaint property tracker states ≡ Some text
+
+-- the exit condition that is set has this name and fails on the tracker and the states by this text
+pub record Fails {C : Type 0} (called : C → List ℕ) (verdict : C → TrackerView → List StateView → ℕ → Result Bool (List ℕ)) (condition : Option C) (tracker : TrackerView) (states : List StateView) (target : ℕ) (name text : List ℕ) : Type 0 where
+  pub asked : C
+  pub set : condition ≡ Some asked
+  pub named : called asked ≡ name
+  pub says : verdict asked tracker states target ≡ Err text
+
+-- a check at a report complained, or memory was wanting
+abbrev pub IsComplaint : {F : Type 0} → (F → List ℕ) → (F → List StateView → Option (List ℕ)) → List F → List StateView → Stop → Type 0
+IsComplaint called complaint checks states stop =
+    (stop ≡ OutOfMemory) ⊎ ((name : List ℕ) × (text : List ℕ) × (stop ≡ Fault (FinalizationProperty name text)) × Complains called complaint checks states name text)
+
+-- a property of the end complained, or memory was wanting
+abbrev pub IsObjection : {P : Type 0} → (P → List ℕ) → (P → TrackerView → List StateView → Option (List ℕ)) → List P → TrackerView → List StateView → Stop → Type 0
+IsObjection called complaint properties tracker states stop =
+    (stop ≡ OutOfMemory) ⊎ ((name : List ℕ) × (text : List ℕ) × (stop ≡ Fault (Property name text)) × Objects called complaint properties tracker states name text)
+
+-- the exit condition failed, or memory was wanting
+abbrev pub IsFailure : {C : Type 0} → (C → List ℕ) → (C → TrackerView → List StateView → ℕ → Result Bool (List ℕ)) → Option C → TrackerView → List StateView → ℕ → Stop → Type 0
+IsFailure called verdict condition tracker states target stop =
+    (stop ≡ OutOfMemory) ⊎ ((name : List ℕ) × (text : List ℕ) × (stop ≡ Fault (Exit name text)) × Fails called verdict condition tracker states target name text)
+
+-- where a check's fault ends a run, that check answers so: a check at a report of states, a property and the
+-- exit condition of the tracker of the reports so far and of states
+abbrev pub Answered : {F P C : Type 0} → (F → List ℕ) → (F → List StateView → Option (List ℕ)) → (P → List ℕ) → (P → TrackerView → List StateView → Option (List ℕ)) → (C → List ℕ) → (C → TrackerView → List StateView → ℕ → Result Bool (List ℕ)) → List F → List P → Option C → List Peer → List Crash → List FinalizationUpdate → PlanFault → Type 0
+Answered fname fsays pname psays cname csays checks properties condition participants crashes before (FinalizationProperty name text) =
+    (states : List StateView) × Complains fname fsays checks states name text
+Answered fname fsays pname psays cname csays checks properties condition participants crashes before (Property name text) =
+    (more : List FinalizationUpdate) × (states : List StateView) × Objects pname psays properties (tracker_of (before ++ more)) states name text
+Answered fname fsays pname psays cname csays checks properties condition participants crashes before (Exit name text) =
+    (more : List FinalizationUpdate) × (states : List StateView) × (started : Bool) × Fails cname csays condition (tracker_of (before ++ more)) states (target_count participants crashes started) name text
+Answered fname fsays pname psays cname csays checks properties condition participants crashes before (Fork update fault) = Unit {0}
+Answered fname fsays pname psays cname csays checks properties condition participants crashes before Timeout = Unit {0}
+Answered fname fsays pname psays cname csays checks properties condition participants crashes before EventLimit = Unit {0}
+Answered fname fsays pname psays cname csays checks properties condition participants crashes before Idle = Unit {0}
+Answered fname fsays pname psays cname csays checks properties condition participants crashes before (SkippedWindow height) = Unit {0}
+Answered fname fsays pname psays cname csays checks properties condition participants crashes before (NotExercised index) = Unit {0}
+
+-- the same of a stop
+abbrev pub StopAnswered : {F P C : Type 0} → (F → List ℕ) → (F → List StateView → Option (List ℕ)) → (P → List ℕ) → (P → TrackerView → List StateView → Option (List ℕ)) → (C → List ℕ) → (C → TrackerView → List StateView → ℕ → Result Bool (List ℕ)) → List F → List P → Option C → List Peer → List Crash → List FinalizationUpdate → Stop → Type 0
+StopAnswered fname fsays pname psays cname csays checks properties condition participants crashes before (Fault fault) =
+    Answered fname fsays pname psays cname csays checks properties condition participants crashes before fault
+StopAnswered fname fsays pname psays cname csays checks properties condition participants crashes before OutOfMemory = Unit {0}
