@@ -1,7 +1,8 @@
 -- What checks answered, said of more.
-use Rattle.std.proofs.Common.{◌≡◌, ◌<◌, ◌⊎◌, inl, inr, ◌++◌, ℕ, Bool, List, [], MatchOption, Option, Some, None, Contains, IfErr, Result, Ok, Err, length, get_or, refl, sym, ap, ◌∙◌, subst}
+use Rattle.std.proofs.Common.{◌≡◌, ◌<◌, ◌⊎◌, inl, inr, ◌++◌, ℕ, Bool, List, [], ◌∷◌, MatchOption, Option, Some, None, Contains, IfErr, Result, Ok, Err, length, get_or, refl, sym, ap, ◌∙◌, subst}
 use Rattle.std.proofs.lemmas.List.{append_assoc, append-nil}
 use Rattle.std.proofs.lemmas.List.Elements.{Contains-get_or}
+use Rattle.simulate_parts.specs.Seats.{active_views}
 use Rattle.simulate_parts.specs.Tracker.{observe_fault, tracker_of}
 use Rattle.simulate_parts.specs.TrackerView.{TrackerView}
 use Rattle.simulate_parts.specs.declared.engine.StateView.{StateView}
@@ -9,9 +10,14 @@ use Rattle.simulate_parts.specs.declared.peer.Peer.{Peer}
 use Rattle.simulate_parts.specs.declared.schedule.Crash.{Crash}
 use Rattle.simulate_parts.specs.declared.tracker.FinalizationUpdate.{FinalizationUpdate}
 use Rattle.simulate_parts.specs.declared.tracker.ObserveFault.{ObserveFault}
-use Rattle.ledger_simulate.specs.Answering.{Answered, Fails, IsComplaint, IsFailure, IsObjection, Objects, StopAnswered}
+use Rattle.ledger_simulate.specs.Answering.{Answered, Fails, IsComplaint, IsFailure, IsObjection, Objects, Sees, StopAnswered}
 use Rattle.ledger_simulate.specs.Causes.{Skips}
+use Rattle.ledger_simulate.specs.Handling.{Disturbs}
 use Rattle.ledger_simulate.specs.Plans.{target_count}
+use Rattle.ledger_simulate.specs.Queue.{AgendaView, QueueView, empty_agenda}
+use Rattle.ledger_simulate.specs.declared.event.Event.{Event}
+use Rattle.ledger_simulate.specs.declared.world.World.{World}
+use Rattle.ledger_simulate.proofs.Stirring.{disturbs_none, disturbs_then}
 use Rattle.ledger_simulate.specs.Stops.{IsExitFault, IsFinalizationFault, IsForkOf, IsPropertyFault}
 use Rattle.ledger_simulate.proofs.Causing.{same_end}
 use Rattle.ledger_simulate.specs.declared.fault.PlanFault.{PlanFault}
@@ -67,77 +73,96 @@ objection_on called complaint xs ys t u vs ws s lists trackers states found =
 pub fault_shown : {A : Type 0} (end : SimEnd) (whole e : EndedView) → end ≡ at_fault whole → ◌≡◌ {A = Result A SimEnd} (Err end) (Err (at_fault e)) → whole.fault ≡ e.fault
 fault_shown {A} end whole e is shown = ap (λ (x : EndedView). x.fault) (same_end {A = A} whole e (ap (λ (x : SimEnd). Err x) (sym is) ∙ shown))
 
-module _ {F P C : Type 0} (fname : F → List ℕ) (fsays : F → List StateView → Option (List ℕ)) (pname : P → List ℕ) (psays : P → TrackerView → List StateView → Option (List ℕ)) (cname : C → List ℕ) (csays : C → TrackerView → List StateView → ℕ → Result Bool (List ℕ)) (checks : List F) (properties : List P) (condition : Option C) (participants : List Peer) (crashes : List Crash) where
+-- the agenda of an event that was taken off
+pub agenda_begun : (before rest : QueueView) (entry : (ℕ × ℕ) × Event) (start : AgendaView) → before ≡ record rest { entries = entry ∷ rest.entries } → start ≡ empty_agenda rest.next → start ≡ empty_agenda before.next
+agenda_begun before rest entry start taken nothing = nothing ∙ ap empty_agenda (sym (ap (λ (q : QueueView). q.next) taken))
+
+module _ {D E S : Type 0} (peer_of : E → Peer) (height : S → ℕ) (shown : S → List ℕ) where
+  -- seen of the same world
+  pub sees_now : (a : AgendaView) (u : World D E S) (states : List StateView) → states ≡ active_views height shown u.seats.entries → Sees peer_of height shown a u states
+  sees_now a u states are = record { made = a; world = u; disturbs = disturbs_none peer_of a u; are = are }
+
+  -- seen after failures
+  pub sees_then : (a b : AgendaView) (u v : World D E S) (states : List StateView) → Disturbs peer_of a b u v → Sees peer_of height shown b v states → Sees peer_of height shown a u states
+  sees_then a b u v states disturbs sees = record {
+    made = sees.made;
+    world = sees.world;
+    disturbs = disturbs_then peer_of a b sees.made u v sees.world disturbs sees.disturbs;
+    are = sees.are;
+  }
+
+module _ {F P C : Type 0} (fname : F → List ℕ) (fsays : F → List StateView → Option (List ℕ)) (pname : P → List ℕ) (psays : P → TrackerView → List StateView → Option (List ℕ)) (cname : C → List ℕ) (csays : C → TrackerView → List StateView → ℕ → Result Bool (List ℕ)) (checks : List F) (properties : List P) (condition : Option C) (participants : List Peer) (crashes : List Crash) (seen : List StateView → Type 0) where
   -- want of memory
-  pub answered_short : (before : List FinalizationUpdate) (s : Stop) → s ≡ OutOfMemory → StopAnswered fname fsays pname psays cname csays checks properties condition participants crashes before s
-  answered_short before s is = subst (StopAnswered fname fsays pname psays cname csays checks properties condition participants crashes before) (sym is) tt
+  pub answered_short : (before : List FinalizationUpdate) (s : Stop) → s ≡ OutOfMemory → StopAnswered fname fsays pname psays cname csays checks properties condition participants crashes seen before s
+  answered_short before s is = subst (StopAnswered fname fsays pname psays cname csays checks properties condition participants crashes seen before) (sym is) tt
 
   -- a check at a report
-  pub answered_complains : (before : List FinalizationUpdate) (states : List StateView) (s : Stop) → IsComplaint fname fsays checks states s → StopAnswered fname fsays pname psays cname csays checks properties condition participants crashes before s
-  answered_complains before states s (inl is) = answered_short before s is
-  answered_complains before states s (inr found) =
-      subst (StopAnswered fname fsays pname psays cname csays checks properties condition participants crashes before) (sym found.2) (states, found.3)
+  pub answered_complains : (before : List FinalizationUpdate) (states : List StateView) (s : Stop) → seen states → IsComplaint fname fsays checks states s → StopAnswered fname fsays pname psays cname csays checks properties condition participants crashes seen before s
+  answered_complains before states s saw (inl is) = answered_short before s is
+  answered_complains before states s saw (inr found) =
+      subst (StopAnswered fname fsays pname psays cname csays checks properties condition participants crashes seen before) (sym found.2) (states, saw, found.3)
 
   -- the exit condition
-  pub answered_fails : (before : List FinalizationUpdate) (states : List StateView) (started : Bool) (s : Stop) → IsFailure cname csays condition (tracker_of before) states (target_count participants crashes started) s → StopAnswered fname fsays pname psays cname csays checks properties condition participants crashes before s
-  answered_fails before states started s (inl is) = answered_short before s is
-  answered_fails before states started s (inr found) =
+  pub answered_fails : (before : List FinalizationUpdate) (states : List StateView) (started : Bool) (s : Stop) → seen states → IsFailure cname csays condition (tracker_of before) states (target_count participants crashes started) s → StopAnswered fname fsays pname psays cname csays checks properties condition participants crashes seen before s
+  answered_fails before states started s saw (inl is) = answered_short before s is
+  answered_fails before states started s saw (inr found) =
       let none : before ≡ before ++ [] = sym (append-nil before) in
       let fails : Fails cname csays condition (tracker_of (before ++ [])) states (target_count participants crashes started) found.0 found.1 =
       subst (λ us. Fails cname csays condition (tracker_of us) states (target_count participants crashes started) found.0 found.1) none found.3 in
-      subst (StopAnswered fname fsays pname psays cname csays checks properties condition participants crashes before) (sym found.2) ([], states, started, fails)
+      subst (StopAnswered fname fsays pname psays cname csays checks properties condition participants crashes seen before) (sym found.2) ([], states, saw, started, fails)
 
   -- a property of the end
-  pub answered_objects : (before : List FinalizationUpdate) (states : List StateView) (s : Stop) (f : PlanFault) → s ≡ Fault f → IsObjection pname psays properties (tracker_of before) states s → Answered fname fsays pname psays cname csays checks properties condition participants crashes before f
+  pub answered_objects : (before : List FinalizationUpdate) (states : List StateView) (s : Stop) (f : PlanFault) → s ≡ Fault f → IsObjection pname psays properties (tracker_of before) states s → Answered fname fsays pname psays cname csays checks properties condition participants crashes seen before f
   answered_objects before states s f is objects =
-      subst (StopAnswered fname fsays pname psays cname csays checks properties condition participants crashes before) is (by_stop s objects)
+      subst (StopAnswered fname fsays pname psays cname csays checks properties condition participants crashes seen before) is (by_stop s objects)
     where
-      by_stop : (s : Stop) → IsObjection pname psays properties (tracker_of before) states s → StopAnswered fname fsays pname psays cname csays checks properties condition participants crashes before s
+      by_stop : (s : Stop) → IsObjection pname psays properties (tracker_of before) states s → StopAnswered fname fsays pname psays cname csays checks properties condition participants crashes seen before s
       by_stop s (inl is) = answered_short before s is
       by_stop s (inr found) =
-          subst (StopAnswered fname fsays pname psays cname csays checks properties condition participants crashes before) (sym found.2)
+          subst (StopAnswered fname fsays pname psays cname csays checks properties condition participants crashes seen before) (sym found.2)
           ([], states, subst (λ us. Objects pname psays properties (tracker_of us) states found.0 found.1) (sym (append-nil before)) found.3)
 
   -- a refused report
-  pub answered_forks : (before : List FinalizationUpdate) (update : FinalizationUpdate) (s : Stop) → IsForkOf before update s → StopAnswered fname fsays pname psays cname csays checks properties condition participants crashes before s
+  pub answered_forks : (before : List FinalizationUpdate) (update : FinalizationUpdate) (s : Stop) → IsForkOf before update s → StopAnswered fname fsays pname psays cname csays checks properties condition participants crashes seen before s
   answered_forks before update s forks = by_fault (observe_fault (tracker_of before) update) forks
     where
-      by_fault : (o : Option ObserveFault) → MatchOption o (s ≡ OutOfMemory) (λ fault. (s ≡ OutOfMemory) ⊎ (s ≡ Fault (Fork update fault))) → StopAnswered fname fsays pname psays cname csays checks properties condition participants crashes before s
+      by_fault : (o : Option ObserveFault) → MatchOption o (s ≡ OutOfMemory) (λ fault. (s ≡ OutOfMemory) ⊎ (s ≡ Fault (Fork update fault))) → StopAnswered fname fsays pname psays cname csays checks properties condition participants crashes seen before s
       by_fault None short = answered_short before s short
       by_fault (Some fault) (inl short) = answered_short before s short
-      by_fault (Some fault) (inr fork) = subst (StopAnswered fname fsays pname psays cname csays checks properties condition participants crashes before) (sym fork) tt
+      by_fault (Some fault) (inr fork) = subst (StopAnswered fname fsays pname psays cname csays checks properties condition participants crashes seen before) (sym fork) tt
 
   -- a window that was skipped
-  pub answered_skips : (before : List FinalizationUpdate) (s : Stop) → (s ≡ OutOfMemory) ⊎ ((height : ℕ) × (s ≡ Fault (SkippedWindow height)) × Skips crashes height) → StopAnswered fname fsays pname psays cname csays checks properties condition participants crashes before s
+  pub answered_skips : (before : List FinalizationUpdate) (s : Stop) → (s ≡ OutOfMemory) ⊎ ((height : ℕ) × (s ≡ Fault (SkippedWindow height)) × Skips crashes height) → StopAnswered fname fsays pname psays cname csays checks properties condition participants crashes seen before s
   answered_skips before s (inl is) = answered_short before s is
-  answered_skips before s (inr skips) = subst (StopAnswered fname fsays pname psays cname csays checks properties condition participants crashes before) (sym skips.1) tt
+  answered_skips before s (inr skips) = subst (StopAnswered fname fsays pname psays cname csays checks properties condition participants crashes seen before) (sym skips.1) tt
 
   -- from an earlier time on
-  pub answered_since : (before now done : List FinalizationUpdate) → now ≡ before ++ done → (f : PlanFault) → Answered fname fsays pname psays cname csays checks properties condition participants crashes now f → Answered fname fsays pname psays cname csays checks properties condition participants crashes before f
-  answered_since before now done since (FinalizationProperty name text) said = said
-  answered_since before now done since (Property name text) said = (
+  pub answered_since : (wider : List StateView → Type 0) → ((v : List StateView) → seen v → wider v) → (before now done : List FinalizationUpdate) → now ≡ before ++ done → (f : PlanFault) → Answered fname fsays pname psays cname csays checks properties condition participants crashes seen now f → Answered fname fsays pname psays cname csays checks properties condition participants crashes wider before f
+  answered_since wider widens before now done since (FinalizationProperty name text) said = (said.0, widens said.0 said.1, said.2)
+  answered_since wider widens before now done since (Property name text) said = (
     done ++ said.0,
     said.1,
     subst (λ us. Objects pname psays properties (tracker_of us) said.1 name text) (ap (λ us. us ++ said.0) since ∙ append_assoc before done said.0) said.2,
   )
-  answered_since before now done since (Exit name text) said = (
+  answered_since wider widens before now done since (Exit name text) said = (
     done ++ said.0,
     said.1,
-    said.2,
-    subst (λ us. Fails cname csays condition (tracker_of us) said.1 (target_count participants crashes said.2) name text) (ap (λ us. us ++ said.0) since ∙ append_assoc before done said.0) said.3,
+    widens said.1 said.2,
+    said.3,
+    subst (λ us. Fails cname csays condition (tracker_of us) said.1 (target_count participants crashes said.3) name text) (ap (λ us. us ++ said.0) since ∙ append_assoc before done said.0) said.4,
   )
-  answered_since before now done since (Fork update fault) said = tt
-  answered_since before now done since Timeout said = tt
-  answered_since before now done since EventLimit said = tt
-  answered_since before now done since Idle said = tt
-  answered_since before now done since (SkippedWindow height) said = tt
-  answered_since before now done since (NotExercised index) said = tt
+  answered_since wider widens before now done since (Fork update fault) said = tt
+  answered_since wider widens before now done since Timeout said = tt
+  answered_since wider widens before now done since EventLimit said = tt
+  answered_since wider widens before now done since Idle said = tt
+  answered_since wider widens before now done since (SkippedWindow height) said = tt
+  answered_since wider widens before now done since (NotExercised index) said = tt
 
-  pub stop_answered_since : (before now done : List FinalizationUpdate) → now ≡ before ++ done → (s : Stop) → StopAnswered fname fsays pname psays cname csays checks properties condition participants crashes now s → StopAnswered fname fsays pname psays cname csays checks properties condition participants crashes before s
-  stop_answered_since before now done since (Fault fault) said = answered_since before now done since fault said
-  stop_answered_since before now done since OutOfMemory said = tt
+  pub stop_answered_since : (wider : List StateView → Type 0) → ((v : List StateView) → seen v → wider v) → (before now done : List FinalizationUpdate) → now ≡ before ++ done → (s : Stop) → StopAnswered fname fsays pname psays cname csays checks properties condition participants crashes seen now s → StopAnswered fname fsays pname psays cname csays checks properties condition participants crashes wider before s
+  stop_answered_since wider widens before now done since (Fault fault) said = answered_since wider widens before now done since fault said
+  stop_answered_since wider widens before now done since OutOfMemory said = tt
 
   -- a refusal by the exit condition alone
-  pub if_answered_fails : {A : Type 0} (before : List FinalizationUpdate) (states : List StateView) (started : Bool) (r : Result A Stop) → IfErr r (IsFailure cname csays condition (tracker_of before) states (target_count participants crashes started)) → IfErr r (StopAnswered fname fsays pname psays cname csays checks properties condition participants crashes before)
-  if_answered_fails before states started (Ok a) fact = tt
-  if_answered_fails before states started (Err s) fact = answered_fails before states started s fact
+  pub if_answered_fails : {A : Type 0} (before : List FinalizationUpdate) (states : List StateView) (started : Bool) (r : Result A Stop) → seen states → IfErr r (IsFailure cname csays condition (tracker_of before) states (target_count participants crashes started)) → IfErr r (StopAnswered fname fsays pname psays cname csays checks properties condition participants crashes seen before)
+  if_answered_fails before states started (Ok a) saw fact = tt
+  if_answered_fails before states started (Err s) saw fact = answered_fails before states started s saw fact

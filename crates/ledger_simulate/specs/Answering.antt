@@ -1,16 +1,45 @@
 -- What the checks of a plan answered, where one of them ends a run.
 use Rattle.std.specs.Prelude.{◌≡◌, ◌⊎◌, ℕ, Bool, List, ◌++◌, Option, Some, Result, Err, Contains}
+use Rattle.simulate_parts.specs.Seats.{active_views}
 use Rattle.simulate_parts.specs.Tracker.{tracker_of}
 use Rattle.simulate_parts.specs.TrackerView.{TrackerView}
 use Rattle.simulate_parts.specs.declared.engine.StateView.{StateView}
+use Rattle.simulate_parts.specs.declared.engine.StepEvent.{StepEvent}
+use Rattle.simulate_parts.specs.declared.engine.StepOut.{StepOut}
 use Rattle.simulate_parts.specs.declared.peer.Peer.{Peer}
 use Rattle.simulate_parts.specs.declared.schedule.Crash.{Crash}
 use Rattle.simulate_parts.specs.declared.tracker.FinalizationUpdate.{FinalizationUpdate}
+use Rattle.ledger_simulate.specs.Handling.{Disturbs, Gives}
 use Rattle.ledger_simulate.specs.Plans.{target_count}
+use Rattle.ledger_simulate.specs.Queue.{AgendaView}
 use Rattle.ledger_simulate.specs.declared.fault.PlanFault.{PlanFault}
 use Rattle.ledger_simulate.specs.declared.fault.PlanFault.TheVariants.{EventLimit, Exit, FinalizationProperty, Fork, Idle, NotExercised, Property, SkippedWindow, Timeout}
 use Rattle.ledger_simulate.specs.declared.fault.Stop.{Stop}
 use Rattle.ledger_simulate.specs.declared.fault.Stop.TheVariants.{Fault, OutOfMemory}
+use Rattle.ledger_simulate.specs.declared.world.World.{World}
+
+-- the states of the engines that run, after failures that reports set off
+pub record Sees {D E S : Type 0} (peer_of : E → Peer) (height : S → ℕ) (shown : S → List ℕ) (a : AgendaView) (u : World D E S) (states : List StateView) : Type 0 where
+  pub made : AgendaView
+  pub world : World D E S
+  pub disturbs : Disturbs peer_of a made u world
+  pub are : states ≡ active_views height shown world.seats.entries
+
+-- the states of the engines that run, after one engine took one step
+pub record SeesAfter {D E S : Type 0} (peer_of : E → Peer) (journal : Option (E → List (StepEvent × StepOut))) (reports : Option (FinalizationUpdate → Bool)) (height : S → ℕ) (shown : S → List ℕ) (a : AgendaView) (u : World D E S) (states : List StateView) : Type 0 where
+  pub pk : Peer
+  pub birth : ℕ
+  pub event : StepEvent
+  pub out : StepOut
+  pub given : AgendaView
+  pub mid : World D E S
+  pub gives : Gives peer_of journal reports pk birth event out a given u mid
+  pub sees : Sees peer_of height shown given mid states
+
+-- the states of a moment of a step: before it, or after an engine took its step
+abbrev pub Beholds : {D E S : Type 0} → (E → Peer) → Option (E → List (StepEvent × StepOut)) → Option (FinalizationUpdate → Bool) → (S → ℕ) → (S → List ℕ) → AgendaView → World D E S → List StateView → Type 0
+Beholds peer_of journal reports height shown a u states =
+    (states ≡ active_views height shown u.seats.entries) ⊎ SeesAfter peer_of journal reports height shown a u states
 
 -- one of these checks has this name and complains of the states by this text
 pub record Complains {F : Type 0} (called : F → List ℕ) (complaint : F → List StateView → Option (List ℕ)) (checks : List F) (states : List StateView) (name text : List ℕ) : Type 0 where
@@ -48,24 +77,25 @@ abbrev pub IsFailure : {C : Type 0} → (C → List ℕ) → (C → TrackerView 
 IsFailure called verdict condition tracker states target stop =
     (stop ≡ OutOfMemory) ⊎ ((name : List ℕ) × (text : List ℕ) × (stop ≡ Fault (Exit name text)) × Fails called verdict condition tracker states target name text)
 
--- where a check's fault ends a run, that check answers so: a check at a report of states, a property and the
--- exit condition of the tracker of the reports so far and of states
-abbrev pub Answered : {F P C : Type 0} → (F → List ℕ) → (F → List StateView → Option (List ℕ)) → (P → List ℕ) → (P → TrackerView → List StateView → Option (List ℕ)) → (C → List ℕ) → (C → TrackerView → List StateView → ℕ → Result Bool (List ℕ)) → List F → List P → Option C → List Peer → List Crash → List FinalizationUpdate → PlanFault → Type 0
-Answered fname fsays pname psays cname csays checks properties condition participants crashes before (FinalizationProperty name text) =
-    (states : List StateView) × Complains fname fsays checks states name text
-Answered fname fsays pname psays cname csays checks properties condition participants crashes before (Property name text) =
+-- where a check's fault ends a run, that check answers so: a check at a report of states that were seen, the
+-- exit condition of the tracker of the reports so far and of states that were seen, and a property of that
+-- tracker and of states
+abbrev pub Answered : {F P C : Type 0} → (F → List ℕ) → (F → List StateView → Option (List ℕ)) → (P → List ℕ) → (P → TrackerView → List StateView → Option (List ℕ)) → (C → List ℕ) → (C → TrackerView → List StateView → ℕ → Result Bool (List ℕ)) → List F → List P → Option C → List Peer → List Crash → (List StateView → Type 0) → List FinalizationUpdate → PlanFault → Type 0
+Answered fname fsays pname psays cname csays checks properties condition participants crashes seen before (FinalizationProperty name text) =
+    (states : List StateView) × seen states × Complains fname fsays checks states name text
+Answered fname fsays pname psays cname csays checks properties condition participants crashes seen before (Property name text) =
     (more : List FinalizationUpdate) × (states : List StateView) × Objects pname psays properties (tracker_of (before ++ more)) states name text
-Answered fname fsays pname psays cname csays checks properties condition participants crashes before (Exit name text) =
-    (more : List FinalizationUpdate) × (states : List StateView) × (started : Bool) × Fails cname csays condition (tracker_of (before ++ more)) states (target_count participants crashes started) name text
-Answered fname fsays pname psays cname csays checks properties condition participants crashes before (Fork update fault) = Unit {0}
-Answered fname fsays pname psays cname csays checks properties condition participants crashes before Timeout = Unit {0}
-Answered fname fsays pname psays cname csays checks properties condition participants crashes before EventLimit = Unit {0}
-Answered fname fsays pname psays cname csays checks properties condition participants crashes before Idle = Unit {0}
-Answered fname fsays pname psays cname csays checks properties condition participants crashes before (SkippedWindow height) = Unit {0}
-Answered fname fsays pname psays cname csays checks properties condition participants crashes before (NotExercised index) = Unit {0}
+Answered fname fsays pname psays cname csays checks properties condition participants crashes seen before (Exit name text) =
+    (more : List FinalizationUpdate) × (states : List StateView) × seen states × (started : Bool) × Fails cname csays condition (tracker_of (before ++ more)) states (target_count participants crashes started) name text
+Answered fname fsays pname psays cname csays checks properties condition participants crashes seen before (Fork update fault) = Unit {0}
+Answered fname fsays pname psays cname csays checks properties condition participants crashes seen before Timeout = Unit {0}
+Answered fname fsays pname psays cname csays checks properties condition participants crashes seen before EventLimit = Unit {0}
+Answered fname fsays pname psays cname csays checks properties condition participants crashes seen before Idle = Unit {0}
+Answered fname fsays pname psays cname csays checks properties condition participants crashes seen before (SkippedWindow height) = Unit {0}
+Answered fname fsays pname psays cname csays checks properties condition participants crashes seen before (NotExercised index) = Unit {0}
 
 -- the same of a stop
-abbrev pub StopAnswered : {F P C : Type 0} → (F → List ℕ) → (F → List StateView → Option (List ℕ)) → (P → List ℕ) → (P → TrackerView → List StateView → Option (List ℕ)) → (C → List ℕ) → (C → TrackerView → List StateView → ℕ → Result Bool (List ℕ)) → List F → List P → Option C → List Peer → List Crash → List FinalizationUpdate → Stop → Type 0
-StopAnswered fname fsays pname psays cname csays checks properties condition participants crashes before (Fault fault) =
-    Answered fname fsays pname psays cname csays checks properties condition participants crashes before fault
-StopAnswered fname fsays pname psays cname csays checks properties condition participants crashes before OutOfMemory = Unit {0}
+abbrev pub StopAnswered : {F P C : Type 0} → (F → List ℕ) → (F → List StateView → Option (List ℕ)) → (P → List ℕ) → (P → TrackerView → List StateView → Option (List ℕ)) → (C → List ℕ) → (C → TrackerView → List StateView → ℕ → Result Bool (List ℕ)) → List F → List P → Option C → List Peer → List Crash → (List StateView → Type 0) → List FinalizationUpdate → Stop → Type 0
+StopAnswered fname fsays pname psays cname csays checks properties condition participants crashes seen before (Fault fault) =
+    Answered fname fsays pname psays cname csays checks properties condition participants crashes seen before fault
+StopAnswered fname fsays pname psays cname csays checks properties condition participants crashes seen before OutOfMemory = Unit {0}

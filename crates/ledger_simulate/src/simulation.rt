@@ -4,17 +4,17 @@ ghost use Rattle.std.specs.List.{flat_map};
 ghost use Rattle.rand_core.specs.Pcg32Seed.{pcg32_seed};
 ghost use Rattle.rand_pcg.specs.Pcg.{pcg32_of_seed};
 ghost use Rattle.simulate_parts.specs.Engine.{Passes, updates_of};
-ghost use Rattle.simulate_parts.specs.Seats.{runs};
+ghost use Rattle.simulate_parts.specs.Seats.{active_views, runs};
 ghost use Rattle.simulate_parts.specs.Team.{others};
 ghost use Rattle.simulate_parts.specs.Tracker.{first_fault, tracker_of};
 ghost use Rattle.simulate_parts.specs.declared.engine.StepOut.{StepOut};
-ghost use Rattle.ledger_simulate.specs.Answering.{Answered, StopAnswered};
+ghost use Rattle.ledger_simulate.specs.Answering.{Answered, Beholds, StopAnswered};
 ghost use Rattle.ledger_simulate.specs.Causes.{Comes, EndComes, StopComes, stops_asked};
 ghost use Rattle.ledger_simulate.specs.Handling.{Disturbs, Gives, Grows, Handles, Seated, Stirs, Tells, birth_at, number_after};
 ghost use Rattle.ledger_simulate.specs.Links.{changed_links, common_link};
 ghost use Rattle.ledger_simulate.specs.Opening.{actions_of, first_poll, first_tick, opening, starts};
 ghost use Rattle.ledger_simulate.specs.Plans.{Runs, named_late, target_count};
-ghost use Rattle.ledger_simulate.specs.Queue.{empty_queue, first_key, queued_all};
+ghost use Rattle.ledger_simulate.specs.Queue.{empty_agenda, empty_queue, first_key, queued_all};
 ghost use Rattle.ledger_simulate.specs.Reaching.{IsReached};
 ghost use Rattle.ledger_simulate.specs.Results.{EndedView, ResultView};
 ghost use Rattle.ledger_simulate.specs.Runs.{Extends, Proceeds, ResultOf, Succeeds};
@@ -126,7 +126,7 @@ impl<'a, D: EngineDefinition> Simulation<'a, D> {
         ensures early { IfSome (early_fault (first_key self.entry.queue) self.entry.handled self.entry.plan.now.max_events self.entry.plan.now.timeout) (λ f. result ≡ Err (SimEnd.Fault (record { fault = f; seed = self.entry.seed; handled = self.entry.handled; max_events = self.entry.plan.now.max_events; timeout = self.entry.plan.now.timeout }))) }
         ensures late { (e : EndedView) → early_fault (first_key self.entry.queue) self.entry.handled self.entry.plan.now.max_events self.entry.plan.now.timeout ≡ None → result ≡ Err (SimEnd.Fault e) → (IsTrue (is_late e.fault)) × (e.handled ≡ self.entry.handled + 1) × (e.seed ≡ self.entry.seed) × (e.max_events ≡ self.entry.plan.now.max_events) × (e.timeout ≡ self.entry.plan.now.timeout) }
         ensures comes { (e : EndedView) → early_fault (first_key self.entry.queue) self.entry.handled self.entry.plan.now.max_events self.entry.plan.now.timeout ≡ None → result ≡ Err (SimEnd.Fault e) → Comes self.entry.plan.now.crashes (λ u. Seated (D.peer_of self.entry.plan.now.engine) self.entry.queue.next self.entry.world.seats.entries → Passes (D.reports self.entry.plan.now.engine) u) self.entry.watch e.fault }
-        ensures answered { (e : EndedView) → early_fault (first_key self.entry.queue) self.entry.handled self.entry.plan.now.max_events self.entry.plan.now.timeout ≡ None → result ≡ Err (SimEnd.Fault e) → Answered (λ p. finalization_name p) (λ p. finalization_complaint p) (λ p. property_name p) (λ p. property_complaint p) (λ c. exit_name c) (λ c. exit_verdict c) self.entry.plan.now.finalization_property self.entry.plan.now.property self.entry.plan.now.exit_condition self.entry.plan.now.participants self.entry.plan.now.crashes self.entry.watch e.fault }
+        ensures answered { (e : EndedView) → early_fault (first_key self.entry.queue) self.entry.handled self.entry.plan.now.max_events self.entry.plan.now.timeout ≡ None → result ≡ Err (SimEnd.Fault e) → Answered (λ p. finalization_name p) (λ p. finalization_complaint p) (λ p. property_name p) (λ p. property_complaint p) (λ c. exit_name c) (λ c. exit_verdict c) self.entry.plan.now.finalization_property self.entry.plan.now.property self.entry.plan.now.exit_condition self.entry.plan.now.participants self.entry.plan.now.crashes (Beholds (D.peer_of self.entry.plan.now.engine) (D.journal self.entry.plan.now.engine) (D.reports self.entry.plan.now.engine) D.State.height_of D.State.bytes_of (empty_agenda self.entry.queue.next) self.entry.world) self.entry.watch e.fault }
         ensures ended { (e : EndedView) → result ≡ Err (SimEnd.Fault e) → (e.seed ≡ self.entry.seed) × (e.max_events ≡ self.entry.plan.now.max_events) × (e.timeout ≡ self.entry.plan.now.timeout) }
         ensures on { (next : _) → result ≡ Ok (Stepped.On next) → Proceeds (D.peer_of self.entry.plan.now.engine) (D.journal self.entry.plan.now.engine) (D.reports self.entry.plan.now.engine) self.entry.queue next.queue self.entry.watch next.watch self.entry.world next.world × (next.handled ≡ self.entry.handled + 1) × (self.entry.handled < self.entry.plan.now.max_events) × (next.seed ≡ self.entry.seed) × (next.plan ≡ self.entry.plan) }
         ensures done { (r : ResultView) → result ≡ Ok (Stepped.Done r) → Extends self.entry.watch r.updates × (r.handled ≡ self.entry.handled + 1) × (r.seed ≡ self.entry.seed) × (r.max_events ≡ self.entry.plan.now.max_events) × (r.timeout ≡ self.entry.plan.now.timeout) }
@@ -151,7 +151,7 @@ impl<'a, D: EngineDefinition> Simulation<'a, D> {
         requires below { self.handled < self.plan.now.max_events }
         ensures late { (e : EndedView) → result ≡ Err (SimEnd.Fault e) → (IsTrue (is_late e.fault)) × (e.handled ≡ self.entry.handled + 1) × (e.seed ≡ self.entry.seed) × (e.max_events ≡ self.entry.plan.now.max_events) × (e.timeout ≡ self.entry.plan.now.timeout) }
         ensures comes { (e : EndedView) → result ≡ Err (SimEnd.Fault e) → Comes self.entry.plan.now.crashes (λ u. Seated (D.peer_of self.entry.plan.now.engine) self.entry.queue.next self.entry.world.seats.entries → Passes (D.reports self.entry.plan.now.engine) u) self.entry.watch e.fault }
-        ensures answered { (e : EndedView) → result ≡ Err (SimEnd.Fault e) → Answered (λ p. finalization_name p) (λ p. finalization_complaint p) (λ p. property_name p) (λ p. property_complaint p) (λ c. exit_name c) (λ c. exit_verdict c) self.entry.plan.now.finalization_property self.entry.plan.now.property self.entry.plan.now.exit_condition self.entry.plan.now.participants self.entry.plan.now.crashes self.entry.watch e.fault }
+        ensures answered { (e : EndedView) → result ≡ Err (SimEnd.Fault e) → Answered (λ p. finalization_name p) (λ p. finalization_complaint p) (λ p. property_name p) (λ p. property_complaint p) (λ c. exit_name c) (λ c. exit_verdict c) self.entry.plan.now.finalization_property self.entry.plan.now.property self.entry.plan.now.exit_condition self.entry.plan.now.participants self.entry.plan.now.crashes (Beholds (D.peer_of self.entry.plan.now.engine) (D.journal self.entry.plan.now.engine) (D.reports self.entry.plan.now.engine) D.State.height_of D.State.bytes_of (empty_agenda self.entry.queue.next) self.entry.world) self.entry.watch e.fault }
         ensures on { (next : _) → result ≡ Ok (Stepped.On next) → Proceeds (D.peer_of self.entry.plan.now.engine) (D.journal self.entry.plan.now.engine) (D.reports self.entry.plan.now.engine) self.entry.queue next.queue self.entry.watch next.watch self.entry.world next.world × (next.handled ≡ self.entry.handled + 1) × (next.seed ≡ self.entry.seed) × (next.plan ≡ self.entry.plan) }
         ensures done { (r : ResultView) → result ≡ Ok (Stepped.Done r) → Extends self.entry.watch r.updates × (r.handled ≡ self.entry.handled + 1) × (r.seed ≡ self.entry.seed) × (r.max_events ≡ self.entry.plan.now.max_events) × (r.timeout ≡ self.entry.plan.now.timeout) }
         ensures success { (r : ResultView) → result ≡ Ok (Stepped.Done r) → Succeeds (λ c. exit_verdict c) (λ p. property_complaint p) self.entry.plan.now.participants self.entry.plan.now.crashes self.entry.plan.now.exit_condition self.entry.plan.now.required_finalizations self.entry.plan.now.property r }
@@ -195,7 +195,7 @@ impl<'a, D: EngineDefinition> Simulation<'a, D> {
         requires { IsReached (λ c. exit_verdict c) self.plan.now.exit_condition self.plan.now.required_finalizations (target_count self.plan.now.participants self.plan.now.crashes self.world.exercise.delayed_started) self.watch reached }
         ensures late { (e : EndedView) → result ≡ Err (SimEnd.Fault e) → (IsTrue (is_late e.fault)) × (e.handled ≡ self.entry.handled) × (e.seed ≡ self.entry.seed) × (e.max_events ≡ self.entry.plan.now.max_events) × (e.timeout ≡ self.entry.plan.now.timeout) }
         ensures comes { (e : EndedView) → result ≡ Err (SimEnd.Fault e) → EndComes self.entry.plan.now.crashes e.fault }
-        ensures answered { (e : EndedView) → result ≡ Err (SimEnd.Fault e) → Answered (λ p. finalization_name p) (λ p. finalization_complaint p) (λ p. property_name p) (λ p. property_complaint p) (λ c. exit_name c) (λ c. exit_verdict c) self.entry.plan.now.finalization_property self.entry.plan.now.property self.entry.plan.now.exit_condition self.entry.plan.now.participants self.entry.plan.now.crashes self.entry.watch e.fault }
+        ensures answered { (e : EndedView) → result ≡ Err (SimEnd.Fault e) → Answered (λ p. finalization_name p) (λ p. finalization_complaint p) (λ p. property_name p) (λ p. property_complaint p) (λ c. exit_name c) (λ c. exit_verdict c) self.entry.plan.now.finalization_property self.entry.plan.now.property self.entry.plan.now.exit_condition self.entry.plan.now.participants self.entry.plan.now.crashes (λ states. ⊥) self.entry.watch e.fault }
         ensures on { (next : _) → result ≡ Ok (Stepped.On next) → ⊥ }
         ensures done { (r : ResultView) → result ≡ Ok (Stepped.Done r) → (r.updates ≡ self.entry.watch) × (r.handled ≡ self.entry.handled) × (r.seed ≡ self.entry.seed) × (r.max_events ≡ self.entry.plan.now.max_events) × (r.timeout ≡ self.entry.plan.now.timeout) }
         ensures success { (r : ResultView) → result ≡ Ok (Stepped.Done r) → Succeeds (λ c. exit_verdict c) (λ p. property_complaint p) self.entry.plan.now.participants self.entry.plan.now.crashes self.entry.plan.now.exit_condition self.entry.plan.now.required_finalizations self.entry.plan.now.property r }
@@ -449,7 +449,7 @@ fn handle<D: EngineDefinition>(
     ensures updates { OnOk result (Extends watch.old watch.new) }
     ensures reached { IfOk result (λ o. IfSome o (λ r. IsReached (λ c. exit_verdict c) plan.now.exit_condition plan.now.required_finalizations (target_count plan.now.participants plan.now.crashes world.new.exercise.delayed_started) watch.new r)) }
     ensures comes { IfErr result (StopComes plan.now.crashes (λ u. Seated (D.peer_of plan.now.engine) (number_after agenda.old) world.old.seats.entries → Passes (D.reports plan.now.engine) u) watch.old) }
-    ensures answered { IfErr result (StopAnswered (λ p. finalization_name p) (λ p. finalization_complaint p) (λ p. property_name p) (λ p. property_complaint p) (λ c. exit_name c) (λ c. exit_verdict c) plan.now.finalization_property plan.now.property plan.now.exit_condition plan.now.participants plan.now.crashes watch.old) }
+    ensures answered { IfErr result (StopAnswered (λ p. finalization_name p) (λ p. finalization_complaint p) (λ p. property_name p) (λ p. property_complaint p) (λ c. exit_name c) (λ c. exit_verdict c) plan.now.finalization_property plan.now.property plan.now.exit_condition plan.now.participants plan.now.crashes (Beholds (D.peer_of plan.now.engine) (D.journal plan.now.engine) (D.reports plan.now.engine) D.State.height_of D.State.bytes_of agenda.old world.old) watch.old) }
     ensures late { IfErr result (λ s. IsTrue (stops_late s)) }
 {
     match event {
@@ -539,7 +539,8 @@ fn polled_states<D: EngineDefinition>(
     world: &World<D>,
     agenda: &mut Agenda,
 ) -> Result<Vec<StateView>, OutOfMemory>
-    ensures { OnOk result (agenda.new ≡ record agenda.old { events = agenda.old.events ++ (25, ExitPoll) ∷ [] }) }
+    ensures made { OnOk result (agenda.new ≡ record agenda.old { events = agenda.old.events ++ (25, ExitPoll) ∷ [] }) }
+    ensures views { IfOk result (λ states. states.items ≡ active_views D.State.height_of D.State.bytes_of world.now.seats.entries) }
 {
     agenda.after(EXIT_POLL, Event::ExitPoll)?;
     active_states(world.alloc, &world.seats)
@@ -555,7 +556,7 @@ fn poll<D: EngineDefinition>(
     ensures stirs { OnOk result (Stirs (D.peer_of plan.now.engine) agenda.old agenda.new world.now world.now) }
     ensures reached { IfOk result (λ o. IfSome o (λ r. IsReached (λ c. exit_verdict c) plan.now.exit_condition plan.now.required_finalizations (target_count plan.now.participants plan.now.crashes world.now.exercise.delayed_started) watch.now r)) }
     ensures asked { IfErr result (λ s. IsTrue (stops_asked s)) }
-    ensures answered { IfErr result (StopAnswered (λ p. finalization_name p) (λ p. finalization_complaint p) (λ p. property_name p) (λ p. property_complaint p) (λ c. exit_name c) (λ c. exit_verdict c) plan.now.finalization_property plan.now.property plan.now.exit_condition plan.now.participants plan.now.crashes watch.now) }
+    ensures answered { IfErr result (StopAnswered (λ p. finalization_name p) (λ p. finalization_complaint p) (λ p. property_name p) (λ p. property_complaint p) (λ c. exit_name c) (λ c. exit_verdict c) plan.now.finalization_property plan.now.property plan.now.exit_condition plan.now.participants plan.now.crashes (Beholds (D.peer_of plan.now.engine) (D.journal plan.now.engine) (D.reports plan.now.engine) D.State.height_of D.State.bytes_of agenda.old world.now) watch.now) }
     ensures late { IfErr result (λ s. IsTrue (stops_late s)) }
 {
     match polled_states(world, agenda) {
@@ -606,7 +607,7 @@ fn step_at<D: EngineDefinition>(
     ensures updates { OnOk result (Extends watch.old watch.new) }
     ensures reached { IfOk result (λ o. IfSome o (λ r. IsReached (λ c. exit_verdict c) plan.now.exit_condition plan.now.required_finalizations (target_count plan.now.participants plan.now.crashes world.new.exercise.delayed_started) watch.new r)) }
     ensures comes { IfErr result (StopComes plan.now.crashes (λ u. Seated (D.peer_of plan.now.engine) (number_after agenda.old) world.old.seats.entries → Passes (D.reports plan.now.engine) u) watch.old) }
-    ensures answered { IfErr result (StopAnswered (λ p. finalization_name p) (λ p. finalization_complaint p) (λ p. property_name p) (λ p. property_complaint p) (λ c. exit_name c) (λ c. exit_verdict c) plan.now.finalization_property plan.now.property plan.now.exit_condition plan.now.participants plan.now.crashes watch.old) }
+    ensures answered { IfErr result (StopAnswered (λ p. finalization_name p) (λ p. finalization_complaint p) (λ p. property_name p) (λ p. property_complaint p) (λ c. exit_name c) (λ c. exit_verdict c) plan.now.finalization_property plan.now.property plan.now.exit_condition plan.now.participants plan.now.crashes (Beholds (D.peer_of plan.now.engine) (D.journal plan.now.engine) (D.reports plan.now.engine) D.State.height_of D.State.bytes_of agenda.old world.old) watch.old) }
     ensures late { IfErr result (λ s. IsTrue (stops_late s)) }
 {
     let Told { pk, birth, event } = told;

@@ -1,5 +1,7 @@
-use Rattle.std.proofs.Common.{◌≡◌}
+use Rattle.std.proofs.Common.{◌≡◌, refl}
 use Rattle.ledger_simulate.proofs.Causing.{stop_asked, stop_forks}
+use Rattle.simulate_parts.specs.Seats.{active_views}
+use Rattle.ledger_simulate.proofs.Answering.{answered_complains}
 use Rattle.ledger_simulate.proofs.reports.drain_report.Goals as goal
 
 pub returns-in-Err-clause-comes : goal.returns-in-Err-clause-comes
@@ -7,3 +9,8 @@ returns-in-Err-clause-comes g c = stop_forks c.args.plan.now.crashes c.args.watc
 
 pub returns-in-Err-check_now-clause-comes : goal.returns-in-Err-check_now-clause-comes
 returns-in-Err-check_now-clause-comes g c = stop_asked c.args.plan.now.crashes (λ u. u ≡ c.args.update) c.args.watch.now c.in-Err-check_now.stop c.in-Err-check_now.ensures.asked
+
+pub returns-in-Err-check_now-clause-answered : goal.returns-in-Err-check_now-clause-answered
+returns-in-Err-check_now-clause-answered g c =
+    answered_complains (λ x. (goal.FinalizationProperty-dyn g (x.vtable, x.value)).finalization_name x.value) (λ x. (goal.FinalizationProperty-dyn g (x.vtable, x.value)).finalization_complaint x.value) (λ x. (goal.Property-dyn g (x.vtable, x.value)).property_name x.value) (λ x. (goal.Property-dyn g (x.vtable, x.value)).property_complaint x.value) (λ x. (goal.ExitCondition-dyn g (x.vtable, x.value)).exit_name x.value) (λ x. (goal.ExitCondition-dyn g (x.vtable, x.value)).exit_verdict x.value) c.args.plan.now.finalization_property c.args.plan.now.property c.args.plan.now.exit_condition c.args.plan.now.participants c.args.plan.now.crashes (λ v. v ≡ active_views g.D.State.ProcessedHeight.height_of g.D.State.ProcessedHeight.bytes_of c.args.world.now.seats.entries)
+    c.args.watch.now (active_views g.D.State.ProcessedHeight.height_of g.D.State.ProcessedHeight.bytes_of c.args.world.now.seats.entries) c.in-Err-check_now.stop refl c.in-Err-check_now.ensures.complains

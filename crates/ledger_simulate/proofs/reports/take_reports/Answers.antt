@@ -4,7 +4,8 @@ use Rattle.std.proofs.lemmas.List.{append_assoc}
 use Rattle.ledger_simulate.proofs.Causing.{among_first, among_more, stop_wider}
 use Rattle.ledger_simulate.proofs.Reaches.{updates_more}
 use Rattle.ledger_simulate.proofs.Stirring.{disturbs_then}
-use Rattle.ledger_simulate.proofs.Answering.{stop_answered_since}
+use Rattle.ledger_simulate.proofs.Answering.{stop_answered_since, sees_then}
+use Rattle.ledger_simulate.specs.Answering.{Sees}
 use Rattle.ledger_simulate.proofs.reports.take_reports.Goals as goal
 
 pub loop-update-preserved : goal.loop-update-preserved
@@ -29,5 +30,6 @@ returns-in-Err-clause-comes g c =
 
 pub returns-in-Err-clause-answered : goal.returns-in-Err-clause-answered
 returns-in-Err-clause-answered g c =
-    stop_answered_since (λ x. (goal.FinalizationProperty-dyn g (x.vtable, x.value)).finalization_name x.value) (λ x. (goal.FinalizationProperty-dyn g (x.vtable, x.value)).finalization_complaint x.value) (λ x. (goal.Property-dyn g (x.vtable, x.value)).property_name x.value) (λ x. (goal.Property-dyn g (x.vtable, x.value)).property_complaint x.value) (λ x. (goal.ExitCondition-dyn g (x.vtable, x.value)).exit_name x.value) (λ x. (goal.ExitCondition-dyn g (x.vtable, x.value)).exit_verdict x.value) c.args.plan.now.finalization_property c.args.plan.now.property c.args.plan.now.exit_condition c.args.plan.now.participants c.args.plan.now.crashes
+    stop_answered_since (λ x. (goal.FinalizationProperty-dyn g (x.vtable, x.value)).finalization_name x.value) (λ x. (goal.FinalizationProperty-dyn g (x.vtable, x.value)).finalization_complaint x.value) (λ x. (goal.Property-dyn g (x.vtable, x.value)).property_name x.value) (λ x. (goal.Property-dyn g (x.vtable, x.value)).property_complaint x.value) (λ x. (goal.ExitCondition-dyn g (x.vtable, x.value)).exit_name x.value) (λ x. (goal.ExitCondition-dyn g (x.vtable, x.value)).exit_verdict x.value) c.args.plan.now.finalization_property c.args.plan.now.property c.args.plan.now.exit_condition c.args.plan.now.participants c.args.plan.now.crashes (Sees (g.D.EngineDefinition.peer_of c.args.plan.now.engine) g.D.State.ProcessedHeight.height_of g.D.State.ProcessedHeight.bytes_of c.loop-update.agenda c.loop-update.world) (Sees (g.D.EngineDefinition.peer_of c.args.plan.now.engine) g.D.State.ProcessedHeight.height_of g.D.State.ProcessedHeight.bytes_of c.args.agenda.now c.args.world.now)
+    (λ v sees. sees_then (g.D.EngineDefinition.peer_of c.args.plan.now.engine) g.D.State.ProcessedHeight.height_of g.D.State.ProcessedHeight.bytes_of c.args.agenda.now c.loop-update.agenda c.args.world.now c.loop-update.world v c.loop-update.invariant.disturbs sees)
     c.args.watch.now c.loop-update.watch c.loop-update.invariant.since.0 c.loop-update.invariant.since.1 c.in-Err.stop c.in-Err.ensures.answered

@@ -1,4 +1,4 @@
-use Rattle.std.proofs.Common.{[], Contains, subst, ◌++◌, sym, ap, ◌∙◌}
+use Rattle.std.proofs.Common.{[], Contains, subst, ◌++◌, sym, ap, ◌∙◌, inr}
 use Rattle.std.proofs.lemmas.List.{append-nil}
 use Rattle.std.proofs.lemmas.List.Elements.{All-contains}
 use Rattle.simulate_parts.specs.Engine.{Passes, updates_of}
@@ -8,6 +8,8 @@ use Rattle.ledger_simulate.proofs.Causing.{if_err_map, stop_wider}
 use Rattle.ledger_simulate.proofs.Engines.{passes_step}
 use Rattle.ledger_simulate.proofs.Results.{on_both}
 use Rattle.ledger_simulate.proofs.Proceeding.{tells_by}
+use Rattle.ledger_simulate.specs.Answering.{Beholds, Sees, StopAnswered}
+use Rattle.ledger_simulate.proofs.Answering.{stop_answered_since}
 use Rattle.ledger_simulate.proofs.simulation.step_at.Goals as goal
 
 pub returns-in-Ok-clause-told : goal.returns-in-Ok-clause-told
@@ -40,3 +42,22 @@ returns-in-Ok-clause-comes g c =
     (passes_step (g.D.EngineDefinition.peer_of engine) (g.D.EngineDefinition.journal engine) (g.D.EngineDefinition.reports engine) c.args.told.pk c.args.told.event given.0 (number_after c.args.agenda.now) c.args.world.now.seats.entries c.step_and_send.new.world.seats.entries given.1.step seated)
     (subst (λ us. Contains us u) given.2 among)))
     c.take_reports.result c.take_reports.ensures.comes
+
+pub returns-in-Ok-clause-answered : goal.returns-in-Ok-clause-answered
+returns-in-Ok-clause-answered g c =
+    let given = c.in-Ok.ensures in
+    if_err_map (StopAnswered (λ x. (goal.FinalizationProperty-dyn g (x.vtable, x.value)).finalization_name x.value) (λ x. (goal.FinalizationProperty-dyn g (x.vtable, x.value)).finalization_complaint x.value) (λ x. (goal.Property-dyn g (x.vtable, x.value)).property_name x.value) (λ x. (goal.Property-dyn g (x.vtable, x.value)).property_complaint x.value) (λ x. (goal.ExitCondition-dyn g (x.vtable, x.value)).exit_name x.value) (λ x. (goal.ExitCondition-dyn g (x.vtable, x.value)).exit_verdict x.value) c.args.plan.now.finalization_property c.args.plan.now.property c.args.plan.now.exit_condition c.args.plan.now.participants c.args.plan.now.crashes (Sees (g.D.EngineDefinition.peer_of c.args.plan.now.engine) g.D.State.ProcessedHeight.height_of g.D.State.ProcessedHeight.bytes_of c.step_and_send.new.agenda c.step_and_send.new.world) c.args.watch.now)
+    (StopAnswered (λ x. (goal.FinalizationProperty-dyn g (x.vtable, x.value)).finalization_name x.value) (λ x. (goal.FinalizationProperty-dyn g (x.vtable, x.value)).finalization_complaint x.value) (λ x. (goal.Property-dyn g (x.vtable, x.value)).property_name x.value) (λ x. (goal.Property-dyn g (x.vtable, x.value)).property_complaint x.value) (λ x. (goal.ExitCondition-dyn g (x.vtable, x.value)).exit_name x.value) (λ x. (goal.ExitCondition-dyn g (x.vtable, x.value)).exit_verdict x.value) c.args.plan.now.finalization_property c.args.plan.now.property c.args.plan.now.exit_condition c.args.plan.now.participants c.args.plan.now.crashes (Beholds (g.D.EngineDefinition.peer_of c.args.plan.now.engine) (g.D.EngineDefinition.journal c.args.plan.now.engine) (g.D.EngineDefinition.reports c.args.plan.now.engine) g.D.State.ProcessedHeight.height_of g.D.State.ProcessedHeight.bytes_of c.args.agenda.now c.args.world.now) c.args.watch.now)
+    (stop_answered_since (λ x. (goal.FinalizationProperty-dyn g (x.vtable, x.value)).finalization_name x.value) (λ x. (goal.FinalizationProperty-dyn g (x.vtable, x.value)).finalization_complaint x.value) (λ x. (goal.Property-dyn g (x.vtable, x.value)).property_name x.value) (λ x. (goal.Property-dyn g (x.vtable, x.value)).property_complaint x.value) (λ x. (goal.ExitCondition-dyn g (x.vtable, x.value)).exit_name x.value) (λ x. (goal.ExitCondition-dyn g (x.vtable, x.value)).exit_verdict x.value) c.args.plan.now.finalization_property c.args.plan.now.property c.args.plan.now.exit_condition c.args.plan.now.participants c.args.plan.now.crashes (Sees (g.D.EngineDefinition.peer_of c.args.plan.now.engine) g.D.State.ProcessedHeight.height_of g.D.State.ProcessedHeight.bytes_of c.step_and_send.new.agenda c.step_and_send.new.world) (Beholds (g.D.EngineDefinition.peer_of c.args.plan.now.engine) (g.D.EngineDefinition.journal c.args.plan.now.engine) (g.D.EngineDefinition.reports c.args.plan.now.engine) g.D.State.ProcessedHeight.height_of g.D.State.ProcessedHeight.bytes_of c.args.agenda.now c.args.world.now)
+    (λ v sees. inr (record {
+      pk = c.args.told.pk;
+      birth = c.in-Some.birth;
+      event = c.args.told.event;
+      out = given.0;
+      given = c.step_and_send.new.agenda;
+      mid = c.step_and_send.new.world;
+      gives = given.1;
+      sees = sees;
+    }))
+    c.args.watch.now c.args.watch.now [] (sym (append-nil c.args.watch.now)))
+    c.take_reports.result c.take_reports.ensures.answered
