@@ -6,15 +6,18 @@ use Rattle.simulate_parts.specs.Seats.{active_views}
 use Rattle.simulate_parts.specs.Tracker.{observe_fault, tracker_of}
 use Rattle.simulate_parts.specs.TrackerView.{TrackerView}
 use Rattle.simulate_parts.specs.declared.engine.StateView.{StateView}
+use Rattle.simulate_parts.specs.declared.engine.StepEvent.{StepEvent}
+use Rattle.simulate_parts.specs.declared.engine.StepOut.{StepOut}
 use Rattle.simulate_parts.specs.declared.peer.Peer.{Peer}
 use Rattle.simulate_parts.specs.declared.schedule.Crash.{Crash}
 use Rattle.simulate_parts.specs.declared.tracker.FinalizationUpdate.{FinalizationUpdate}
 use Rattle.simulate_parts.specs.declared.tracker.ObserveFault.{ObserveFault}
-use Rattle.ledger_simulate.specs.Answering.{Answered, Fails, IsComplaint, IsFailure, IsObjection, Objects, Sees, StopAnswered}
+use Rattle.ledger_simulate.specs.Answering.{Answered, Ends, EndsAt, Fails, IsComplaint, IsFailure, IsObjection, Objects, Sees, StopAnswered}
 use Rattle.ledger_simulate.specs.Causes.{Skips}
-use Rattle.ledger_simulate.specs.Handling.{Disturbs}
+use Rattle.ledger_simulate.specs.Handling.{Disturbs, Handles}
 use Rattle.ledger_simulate.specs.Plans.{target_count}
 use Rattle.ledger_simulate.specs.Queue.{AgendaView, QueueView, empty_agenda}
+use Rattle.ledger_simulate.specs.Reaching.{IsReached}
 use Rattle.ledger_simulate.specs.declared.event.Event.{Event}
 use Rattle.ledger_simulate.specs.declared.world.World.{World}
 use Rattle.ledger_simulate.proofs.Stirring.{disturbs_none, disturbs_then}
@@ -78,91 +81,147 @@ pub agenda_begun : (before rest : QueueView) (entry : (ℕ × ℕ) × Event) (st
 agenda_begun before rest entry start taken nothing = nothing ∙ ap empty_agenda (sym (ap (λ (q : QueueView). q.next) taken))
 
 module _ {D E S : Type 0} (peer_of : E → Peer) (height : S → ℕ) (shown : S → List ℕ) where
-  -- seen of the same world
-  pub sees_now : (a : AgendaView) (u : World D E S) (states : List StateView) → states ≡ active_views height shown u.seats.entries → Sees peer_of height shown a u states
-  sees_now a u states are = record { made = a; world = u; disturbs = disturbs_none peer_of a u; are = are }
+  -- seen of the same world, after these reports
+  pub sees_now : (a : AgendaView) (u : World D E S) (updates more : List FinalizationUpdate) (states : List StateView) → (more ≡ []) × (states ≡ active_views height shown u.seats.entries) → Sees peer_of height shown a u updates (updates ++ more) states
+  sees_now a u updates more states is = record {
+    rest = [];
+    reported = sym (append-nil (updates ++ more) ∙ ap (λ us. updates ++ us) is.0 ∙ append-nil updates);
+    made = a;
+    world = u;
+    disturbs = disturbs_none peer_of a u;
+    are = is.1;
+  }
+
+  -- seen of the same world, with all of these reports
+  pub sees_whole : (a : AgendaView) (u : World D E S) (updates more : List FinalizationUpdate) (states : List StateView) → (more ≡ updates) × (states ≡ active_views height shown u.seats.entries) → Sees peer_of height shown a u updates more states
+  sees_whole a u updates more states is = record {
+    rest = [];
+    reported = sym is.0 ∙ sym (append-nil more);
+    made = a;
+    world = u;
+    disturbs = disturbs_none peer_of a u;
+    are = is.1;
+  }
 
   -- seen after failures
-  pub sees_then : (a b : AgendaView) (u v : World D E S) (states : List StateView) → Disturbs peer_of a b u v → Sees peer_of height shown b v states → Sees peer_of height shown a u states
-  sees_then a b u v states disturbs sees = record {
+  pub sees_then : (a b : AgendaView) (u v : World D E S) (updates more : List FinalizationUpdate) (states : List StateView) → Disturbs peer_of a b u v → Sees peer_of height shown b v updates more states → Sees peer_of height shown a u updates more states
+  sees_then a b u v updates more states disturbs sees = record {
+    rest = sees.rest;
+    reported = sees.reported;
     made = sees.made;
     world = sees.world;
     disturbs = disturbs_then peer_of a b sees.made u v sees.world disturbs sees.disturbs;
     are = sees.are;
   }
 
-module _ {F P C : Type 0} (fname : F → List ℕ) (fsays : F → List StateView → Option (List ℕ)) (pname : P → List ℕ) (psays : P → TrackerView → List StateView → Option (List ℕ)) (cname : C → List ℕ) (csays : C → TrackerView → List StateView → ℕ → Result Bool (List ℕ)) (checks : List F) (properties : List P) (condition : Option C) (participants : List Peer) (crashes : List Crash) (seen : List StateView → Type 0) where
+  -- seen after a report that others come before and behind
+  pub sees_among : (a : AgendaView) (u : World D E S) (update : FinalizationUpdate) (done left rest all more : List FinalizationUpdate) (states : List StateView) → done ++ left ≡ all → left ≡ update ∷ rest → Sees peer_of height shown a u (update ∷ []) more states → Sees peer_of height shown a u all (done ++ more) states
+  sees_among a u update done left rest all more states whole first sees =
+      let one : update ∷ rest ≡ (more ++ sees.rest) ++ rest = ap (λ us. us ++ rest) sees.reported in
+      record {
+        rest = sees.rest ++ rest;
+        reported = sym whole ∙ ap (λ us. done ++ us) (first ∙ one ∙ append_assoc more sees.rest rest) ∙ sym (append_assoc done more (sees.rest ++ rest));
+        made = sees.made;
+        world = sees.world;
+        disturbs = sees.disturbs;
+        are = sees.are;
+      }
+
+-- what is left of a list, one element on
+pub left_more : (done left rest all : List FinalizationUpdate) (update : FinalizationUpdate) → done ++ left ≡ all → left ≡ update ∷ rest → (done ++ update ∷ []) ++ rest ≡ all
+left_more done left rest all update whole first = append_assoc done (update ∷ []) rest ∙ ap (λ us. done ++ us) (sym first) ∙ whole
+
+-- a run whose first event was handled and whose exit condition was met
+pub ends_of : {D E S C : Type 0} (peer_of : E → Peer) (journal : Option (E → List (StepEvent × StepOut))) (reports : Option (FinalizationUpdate → Bool)) (verdict : C → TrackerView → List StateView → ℕ → Result Bool (List ℕ)) (condition : Option C) (required : ℕ) (participants : List Peer) (crashes : List Crash) (queue left : QueueView) (entry : (ℕ × ℕ) × Event) (start made : AgendaView) (us vs done more : List FinalizationUpdate) (u w : World D E S) (states : List StateView) → queue ≡ record left { entries = entry ∷ left.entries } → start ≡ empty_agenda left.next → Handles peer_of journal reports entry.0 entry.1 start made us vs u w → vs ≡ us ++ done → EndsAt verdict condition required (target_count participants crashes w.exercise.delayed_started) vs more states → Ends peer_of journal reports verdict condition required participants crashes queue us u (done ++ more) states
+ends_of peer_of journal reports verdict condition required participants crashes queue left entry start made us vs done more u w states taken nothing handled since over =
+    let same : vs ≡ us ++ (done ++ more) = since ∙ ap (λ xs. us ++ xs) (sym (append-nil done) ∙ ap (λ xs. done ++ xs) (sym over.none)) in
+    let begun : Handles peer_of journal reports entry.0 entry.1 (empty_agenda queue.next) made us vs u w =
+    subst (λ a. Handles peer_of journal reports entry.0 entry.1 a made us vs u w) (agenda_begun queue left entry start taken nothing) handled in
+    record {
+      entry = entry;
+      rest = left.entries;
+      first = ap (λ (q : QueueView). q.entries) taken;
+      made = made;
+      after = w;
+      handles = subst (λ xs. Handles peer_of journal reports entry.0 entry.1 (empty_agenda queue.next) made us xs u w) same begun;
+      reached = over.reached;
+      met = subst (λ xs. IsReached verdict condition required (target_count participants crashes w.exercise.delayed_started) xs over.reached) same over.met;
+      are = over.are;
+    }
+
+module _ {F P C : Type 0} (fname : F → List ℕ) (fsays : F → List StateView → Option (List ℕ)) (pname : P → List ℕ) (psays : P → TrackerView → List StateView → Option (List ℕ)) (cname : C → List ℕ) (csays : C → TrackerView → List StateView → ℕ → Result Bool (List ℕ)) (checks : List F) (properties : List P) (condition : Option C) (participants : List Peer) (crashes : List Crash) (seen ended : List FinalizationUpdate → List StateView → Type 0) where
   -- want of memory
-  pub answered_short : (before : List FinalizationUpdate) (s : Stop) → s ≡ OutOfMemory → StopAnswered fname fsays pname psays cname csays checks properties condition participants crashes seen before s
-  answered_short before s is = subst (StopAnswered fname fsays pname psays cname csays checks properties condition participants crashes seen before) (sym is) tt
+  pub answered_short : (before : List FinalizationUpdate) (s : Stop) → s ≡ OutOfMemory → StopAnswered fname fsays pname psays cname csays checks properties condition participants crashes seen ended before s
+  answered_short before s is = subst (StopAnswered fname fsays pname psays cname csays checks properties condition participants crashes seen ended before) (sym is) tt
 
   -- a check at a report
-  pub answered_complains : (before : List FinalizationUpdate) (states : List StateView) (s : Stop) → seen states → IsComplaint fname fsays checks states s → StopAnswered fname fsays pname psays cname csays checks properties condition participants crashes seen before s
-  answered_complains before states s saw (inl is) = answered_short before s is
-  answered_complains before states s saw (inr found) =
-      subst (StopAnswered fname fsays pname psays cname csays checks properties condition participants crashes seen before) (sym found.2) (states, saw, found.3)
+  pub answered_complains : (before more : List FinalizationUpdate) (states : List StateView) (s : Stop) → seen more states → IsComplaint fname fsays checks states s → StopAnswered fname fsays pname psays cname csays checks properties condition participants crashes seen ended before s
+  answered_complains before more states s saw (inl is) = answered_short before s is
+  answered_complains before more states s saw (inr found) =
+      subst (StopAnswered fname fsays pname psays cname csays checks properties condition participants crashes seen ended before) (sym found.2) (more, states, saw, found.3)
 
   -- the exit condition
-  pub answered_fails : (before : List FinalizationUpdate) (states : List StateView) (started : Bool) (s : Stop) → seen states → IsFailure cname csays condition (tracker_of before) states (target_count participants crashes started) s → StopAnswered fname fsays pname psays cname csays checks properties condition participants crashes seen before s
+  pub answered_fails : (before : List FinalizationUpdate) (states : List StateView) (started : Bool) (s : Stop) → seen [] states → IsFailure cname csays condition (tracker_of before) states (target_count participants crashes started) s → StopAnswered fname fsays pname psays cname csays checks properties condition participants crashes seen ended before s
   answered_fails before states started s saw (inl is) = answered_short before s is
   answered_fails before states started s saw (inr found) =
       let none : before ≡ before ++ [] = sym (append-nil before) in
       let fails : Fails cname csays condition (tracker_of (before ++ [])) states (target_count participants crashes started) found.0 found.1 =
       subst (λ us. Fails cname csays condition (tracker_of us) states (target_count participants crashes started) found.0 found.1) none found.3 in
-      subst (StopAnswered fname fsays pname psays cname csays checks properties condition participants crashes seen before) (sym found.2) ([], states, saw, started, fails)
+      subst (StopAnswered fname fsays pname psays cname csays checks properties condition participants crashes seen ended before) (sym found.2) ([], states, saw, started, fails)
 
   -- a property of the end
-  pub answered_objects : (before : List FinalizationUpdate) (states : List StateView) (s : Stop) (f : PlanFault) → s ≡ Fault f → IsObjection pname psays properties (tracker_of before) states s → Answered fname fsays pname psays cname csays checks properties condition participants crashes seen before f
-  answered_objects before states s f is objects =
-      subst (StopAnswered fname fsays pname psays cname csays checks properties condition participants crashes seen before) is (by_stop s objects)
+  pub answered_objects : (before : List FinalizationUpdate) (states : List StateView) (s : Stop) (f : PlanFault) → ended [] states → s ≡ Fault f → IsObjection pname psays properties (tracker_of before) states s → Answered fname fsays pname psays cname csays checks properties condition participants crashes seen ended before f
+  answered_objects before states s f over is objects =
+      subst (StopAnswered fname fsays pname psays cname csays checks properties condition participants crashes seen ended before) is (by_stop s objects)
     where
-      by_stop : (s : Stop) → IsObjection pname psays properties (tracker_of before) states s → StopAnswered fname fsays pname psays cname csays checks properties condition participants crashes seen before s
+      by_stop : (s : Stop) → IsObjection pname psays properties (tracker_of before) states s → StopAnswered fname fsays pname psays cname csays checks properties condition participants crashes seen ended before s
       by_stop s (inl is) = answered_short before s is
       by_stop s (inr found) =
-          subst (StopAnswered fname fsays pname psays cname csays checks properties condition participants crashes seen before) (sym found.2)
-          ([], states, subst (λ us. Objects pname psays properties (tracker_of us) states found.0 found.1) (sym (append-nil before)) found.3)
+          subst (StopAnswered fname fsays pname psays cname csays checks properties condition participants crashes seen ended before) (sym found.2)
+          ([], states, over, subst (λ us. Objects pname psays properties (tracker_of us) states found.0 found.1) (sym (append-nil before)) found.3)
 
   -- a refused report
-  pub answered_forks : (before : List FinalizationUpdate) (update : FinalizationUpdate) (s : Stop) → IsForkOf before update s → StopAnswered fname fsays pname psays cname csays checks properties condition participants crashes seen before s
+  pub answered_forks : (before : List FinalizationUpdate) (update : FinalizationUpdate) (s : Stop) → IsForkOf before update s → StopAnswered fname fsays pname psays cname csays checks properties condition participants crashes seen ended before s
   answered_forks before update s forks = by_fault (observe_fault (tracker_of before) update) forks
     where
-      by_fault : (o : Option ObserveFault) → MatchOption o (s ≡ OutOfMemory) (λ fault. (s ≡ OutOfMemory) ⊎ (s ≡ Fault (Fork update fault))) → StopAnswered fname fsays pname psays cname csays checks properties condition participants crashes seen before s
+      by_fault : (o : Option ObserveFault) → MatchOption o (s ≡ OutOfMemory) (λ fault. (s ≡ OutOfMemory) ⊎ (s ≡ Fault (Fork update fault))) → StopAnswered fname fsays pname psays cname csays checks properties condition participants crashes seen ended before s
       by_fault None short = answered_short before s short
       by_fault (Some fault) (inl short) = answered_short before s short
-      by_fault (Some fault) (inr fork) = subst (StopAnswered fname fsays pname psays cname csays checks properties condition participants crashes seen before) (sym fork) tt
+      by_fault (Some fault) (inr fork) = subst (StopAnswered fname fsays pname psays cname csays checks properties condition participants crashes seen ended before) (sym fork) tt
 
   -- a window that was skipped
-  pub answered_skips : (before : List FinalizationUpdate) (s : Stop) → (s ≡ OutOfMemory) ⊎ ((height : ℕ) × (s ≡ Fault (SkippedWindow height)) × Skips crashes height) → StopAnswered fname fsays pname psays cname csays checks properties condition participants crashes seen before s
+  pub answered_skips : (before : List FinalizationUpdate) (s : Stop) → (s ≡ OutOfMemory) ⊎ ((height : ℕ) × (s ≡ Fault (SkippedWindow height)) × Skips crashes height) → StopAnswered fname fsays pname psays cname csays checks properties condition participants crashes seen ended before s
   answered_skips before s (inl is) = answered_short before s is
-  answered_skips before s (inr skips) = subst (StopAnswered fname fsays pname psays cname csays checks properties condition participants crashes seen before) (sym skips.1) tt
+  answered_skips before s (inr skips) = subst (StopAnswered fname fsays pname psays cname csays checks properties condition participants crashes seen ended before) (sym skips.1) tt
 
   -- from an earlier time on
-  pub answered_since : (wider : List StateView → Type 0) → ((v : List StateView) → seen v → wider v) → (before now done : List FinalizationUpdate) → now ≡ before ++ done → (f : PlanFault) → Answered fname fsays pname psays cname csays checks properties condition participants crashes seen now f → Answered fname fsays pname psays cname csays checks properties condition participants crashes wider before f
-  answered_since wider widens before now done since (FinalizationProperty name text) said = (said.0, widens said.0 said.1, said.2)
-  answered_since wider widens before now done since (Property name text) said = (
+  pub answered_since : (wider wider_end : List FinalizationUpdate → List StateView → Type 0) (before now done : List FinalizationUpdate) → ((m : List FinalizationUpdate) (v : List StateView) → seen m v → wider (done ++ m) v) → ((m : List FinalizationUpdate) (v : List StateView) → ended m v → wider_end (done ++ m) v) → now ≡ before ++ done → (f : PlanFault) → Answered fname fsays pname psays cname csays checks properties condition participants crashes seen ended now f → Answered fname fsays pname psays cname csays checks properties condition participants crashes wider wider_end before f
+  answered_since wider wider_end before now done widens ends since (FinalizationProperty name text) said = (done ++ said.0, said.1, widens said.0 said.1 said.2, said.3)
+  answered_since wider wider_end before now done widens ends since (Property name text) said = (
     done ++ said.0,
     said.1,
-    subst (λ us. Objects pname psays properties (tracker_of us) said.1 name text) (ap (λ us. us ++ said.0) since ∙ append_assoc before done said.0) said.2,
+    ends said.0 said.1 said.2,
+    subst (λ us. Objects pname psays properties (tracker_of us) said.1 name text) (ap (λ us. us ++ said.0) since ∙ append_assoc before done said.0) said.3,
   )
-  answered_since wider widens before now done since (Exit name text) said = (
+  answered_since wider wider_end before now done widens ends since (Exit name text) said = (
     done ++ said.0,
     said.1,
-    widens said.1 said.2,
+    widens said.0 said.1 said.2,
     said.3,
     subst (λ us. Fails cname csays condition (tracker_of us) said.1 (target_count participants crashes said.3) name text) (ap (λ us. us ++ said.0) since ∙ append_assoc before done said.0) said.4,
   )
-  answered_since wider widens before now done since (Fork update fault) said = tt
-  answered_since wider widens before now done since Timeout said = tt
-  answered_since wider widens before now done since EventLimit said = tt
-  answered_since wider widens before now done since Idle said = tt
-  answered_since wider widens before now done since (SkippedWindow height) said = tt
-  answered_since wider widens before now done since (NotExercised index) said = tt
+  answered_since wider wider_end before now done widens ends since (Fork update fault) said = tt
+  answered_since wider wider_end before now done widens ends since Timeout said = tt
+  answered_since wider wider_end before now done widens ends since EventLimit said = tt
+  answered_since wider wider_end before now done widens ends since Idle said = tt
+  answered_since wider wider_end before now done widens ends since (SkippedWindow height) said = tt
+  answered_since wider wider_end before now done widens ends since (NotExercised index) said = tt
 
-  pub stop_answered_since : (wider : List StateView → Type 0) → ((v : List StateView) → seen v → wider v) → (before now done : List FinalizationUpdate) → now ≡ before ++ done → (s : Stop) → StopAnswered fname fsays pname psays cname csays checks properties condition participants crashes seen now s → StopAnswered fname fsays pname psays cname csays checks properties condition participants crashes wider before s
-  stop_answered_since wider widens before now done since (Fault fault) said = answered_since wider widens before now done since fault said
-  stop_answered_since wider widens before now done since OutOfMemory said = tt
+  pub stop_answered_since : (wider wider_end : List FinalizationUpdate → List StateView → Type 0) (before now done : List FinalizationUpdate) → ((m : List FinalizationUpdate) (v : List StateView) → seen m v → wider (done ++ m) v) → ((m : List FinalizationUpdate) (v : List StateView) → ended m v → wider_end (done ++ m) v) → now ≡ before ++ done → (s : Stop) → StopAnswered fname fsays pname psays cname csays checks properties condition participants crashes seen ended now s → StopAnswered fname fsays pname psays cname csays checks properties condition participants crashes wider wider_end before s
+  stop_answered_since wider wider_end before now done widens ends since (Fault fault) said = answered_since wider wider_end before now done widens ends since fault said
+  stop_answered_since wider wider_end before now done widens ends since OutOfMemory said = tt
 
   -- a refusal by the exit condition alone
-  pub if_answered_fails : {A : Type 0} (before : List FinalizationUpdate) (states : List StateView) (started : Bool) (r : Result A Stop) → seen states → IfErr r (IsFailure cname csays condition (tracker_of before) states (target_count participants crashes started)) → IfErr r (StopAnswered fname fsays pname psays cname csays checks properties condition participants crashes seen before)
+  pub if_answered_fails : {A : Type 0} (before : List FinalizationUpdate) (states : List StateView) (started : Bool) (r : Result A Stop) → seen [] states → IfErr r (IsFailure cname csays condition (tracker_of before) states (target_count participants crashes started)) → IfErr r (StopAnswered fname fsays pname psays cname csays checks properties condition participants crashes seen ended before)
   if_answered_fails before states started (Ok a) saw fact = tt
   if_answered_fails before states started (Err s) saw fact = answered_fails before states started s saw fact

@@ -1,5 +1,6 @@
 -- What the checks of a plan answered, where one of them ends a run.
-use Rattle.std.specs.Prelude.{◌≡◌, ◌⊎◌, ℕ, Bool, List, ◌++◌, Option, Some, Result, Err, Contains}
+use Rattle.std.specs.Prelude.{◌≡◌, ◌⊎◌, ℕ, Bool, List, [], ◌∷◌, ◌++◌, Option, Some, Result, Err, Contains}
+use Rattle.simulate_parts.specs.Engine.{updates_of}
 use Rattle.simulate_parts.specs.Seats.{active_views}
 use Rattle.simulate_parts.specs.Tracker.{tracker_of}
 use Rattle.simulate_parts.specs.TrackerView.{TrackerView}
@@ -9,24 +10,29 @@ use Rattle.simulate_parts.specs.declared.engine.StepOut.{StepOut}
 use Rattle.simulate_parts.specs.declared.peer.Peer.{Peer}
 use Rattle.simulate_parts.specs.declared.schedule.Crash.{Crash}
 use Rattle.simulate_parts.specs.declared.tracker.FinalizationUpdate.{FinalizationUpdate}
-use Rattle.ledger_simulate.specs.Handling.{Disturbs, Gives}
+use Rattle.ledger_simulate.specs.Handling.{Disturbs, Gives, Handles}
 use Rattle.ledger_simulate.specs.Plans.{target_count}
-use Rattle.ledger_simulate.specs.Queue.{AgendaView}
+use Rattle.ledger_simulate.specs.Queue.{AgendaView, QueueView, empty_agenda}
+use Rattle.ledger_simulate.specs.Reaching.{IsReached}
+use Rattle.ledger_simulate.specs.declared.event.Event.{Event}
 use Rattle.ledger_simulate.specs.declared.fault.PlanFault.{PlanFault}
 use Rattle.ledger_simulate.specs.declared.fault.PlanFault.TheVariants.{EventLimit, Exit, FinalizationProperty, Fork, Idle, NotExercised, Property, SkippedWindow, Timeout}
 use Rattle.ledger_simulate.specs.declared.fault.Stop.{Stop}
 use Rattle.ledger_simulate.specs.declared.fault.Stop.TheVariants.{Fault, OutOfMemory}
+use Rattle.ledger_simulate.specs.declared.reports.Reached.{Reached}
 use Rattle.ledger_simulate.specs.declared.world.World.{World}
 
--- the states of the engines that run, after failures that reports set off
-pub record Sees {D E S : Type 0} (peer_of : E → Peer) (height : S → ℕ) (shown : S → List ℕ) (a : AgendaView) (u : World D E S) (states : List StateView) : Type 0 where
+-- the states of the engines that run, after a first part of these reports and the failures that they set off
+pub record Sees {D E S : Type 0} (peer_of : E → Peer) (height : S → ℕ) (shown : S → List ℕ) (a : AgendaView) (u : World D E S) (updates more : List FinalizationUpdate) (states : List StateView) : Type 0 where
+  pub rest : List FinalizationUpdate
+  pub reported : updates ≡ more ++ rest
   pub made : AgendaView
   pub world : World D E S
   pub disturbs : Disturbs peer_of a made u world
   pub are : states ≡ active_views height shown world.seats.entries
 
--- the states of the engines that run, after one engine took one step
-pub record SeesAfter {D E S : Type 0} (peer_of : E → Peer) (journal : Option (E → List (StepEvent × StepOut))) (reports : Option (FinalizationUpdate → Bool)) (height : S → ℕ) (shown : S → List ℕ) (a : AgendaView) (u : World D E S) (states : List StateView) : Type 0 where
+-- the states of the engines that run, after one engine took one step and a first part of its reports
+pub record SeesAfter {D E S : Type 0} (peer_of : E → Peer) (journal : Option (E → List (StepEvent × StepOut))) (reports : Option (FinalizationUpdate → Bool)) (height : S → ℕ) (shown : S → List ℕ) (a : AgendaView) (u : World D E S) (more : List FinalizationUpdate) (states : List StateView) : Type 0 where
   pub pk : Peer
   pub birth : ℕ
   pub event : StepEvent
@@ -34,12 +40,31 @@ pub record SeesAfter {D E S : Type 0} (peer_of : E → Peer) (journal : Option (
   pub given : AgendaView
   pub mid : World D E S
   pub gives : Gives peer_of journal reports pk birth event out a given u mid
-  pub sees : Sees peer_of height shown given mid states
+  pub sees : Sees peer_of height shown given mid (updates_of pk out.finalized) more states
 
--- the states of a moment of a step: before it, or after an engine took its step
-abbrev pub Beholds : {D E S : Type 0} → (E → Peer) → Option (E → List (StepEvent × StepOut)) → Option (FinalizationUpdate → Bool) → (S → ℕ) → (S → List ℕ) → AgendaView → World D E S → List StateView → Type 0
-Beholds peer_of journal reports height shown a u states =
-    (states ≡ active_views height shown u.seats.entries) ⊎ SeesAfter peer_of journal reports height shown a u states
+-- the reports and the states of a moment of a step: before it, or after an engine took its step
+abbrev pub Beholds : {D E S : Type 0} → (E → Peer) → Option (E → List (StepEvent × StepOut)) → Option (FinalizationUpdate → Bool) → (S → ℕ) → (S → List ℕ) → AgendaView → World D E S → List FinalizationUpdate → List StateView → Type 0
+Beholds peer_of journal reports height shown a u more states =
+    ((more ≡ []) × (states ≡ active_views height shown u.seats.entries)) ⊎ SeesAfter peer_of journal reports height shown a u more states
+
+-- no report more, and the exit condition answered true on these states, after a first part of these reports
+pub record EndsAt {C : Type 0} (verdict : C → TrackerView → List StateView → ℕ → Result Bool (List ℕ)) (condition : Option C) (required target : ℕ) (updates more : List FinalizationUpdate) (states : List StateView) : Type 0 where
+  pub none : more ≡ []
+  pub reached : Reached
+  pub met : IsReached verdict condition required target updates reached
+  pub are : states ≡ reached.states.items
+
+-- the first event was handled, with these reports more, and the exit condition answered true on these states
+pub record Ends {D E S C : Type 0} (peer_of : E → Peer) (journal : Option (E → List (StepEvent × StepOut))) (reports : Option (FinalizationUpdate → Bool)) (verdict : C → TrackerView → List StateView → ℕ → Result Bool (List ℕ)) (condition : Option C) (required : ℕ) (participants : List Peer) (crashes : List Crash) (queue : QueueView) (before : List FinalizationUpdate) (u : World D E S) (more : List FinalizationUpdate) (states : List StateView) : Type 0 where
+  pub entry : (ℕ × ℕ) × Event
+  pub rest : List ((ℕ × ℕ) × Event)
+  pub first : queue.entries ≡ entry ∷ rest
+  pub made : AgendaView
+  pub after : World D E S
+  pub handles : Handles peer_of journal reports entry.0 entry.1 (empty_agenda queue.next) made before (before ++ more) u after
+  pub reached : Reached
+  pub met : IsReached verdict condition required (target_count participants crashes after.exercise.delayed_started) (before ++ more) reached
+  pub are : states ≡ reached.states.items
 
 -- one of these checks has this name and complains of the states by this text
 pub record Complains {F : Type 0} (called : F → List ℕ) (complaint : F → List StateView → Option (List ℕ)) (checks : List F) (states : List StateView) (name text : List ℕ) : Type 0 where
@@ -77,25 +102,24 @@ abbrev pub IsFailure : {C : Type 0} → (C → List ℕ) → (C → TrackerView 
 IsFailure called verdict condition tracker states target stop =
     (stop ≡ OutOfMemory) ⊎ ((name : List ℕ) × (text : List ℕ) × (stop ≡ Fault (Exit name text)) × Fails called verdict condition tracker states target name text)
 
--- where a check's fault ends a run, that check answers so: a check at a report of states that were seen, the
--- exit condition of the tracker of the reports so far and of states that were seen, and a property of that
--- tracker and of states
-abbrev pub Answered : {F P C : Type 0} → (F → List ℕ) → (F → List StateView → Option (List ℕ)) → (P → List ℕ) → (P → TrackerView → List StateView → Option (List ℕ)) → (C → List ℕ) → (C → TrackerView → List StateView → ℕ → Result Bool (List ℕ)) → List F → List P → Option C → List Peer → List Crash → (List StateView → Type 0) → List FinalizationUpdate → PlanFault → Type 0
-Answered fname fsays pname psays cname csays checks properties condition participants crashes seen before (FinalizationProperty name text) =
-    (states : List StateView) × seen states × Complains fname fsays checks states name text
-Answered fname fsays pname psays cname csays checks properties condition participants crashes seen before (Property name text) =
-    (more : List FinalizationUpdate) × (states : List StateView) × Objects pname psays properties (tracker_of (before ++ more)) states name text
-Answered fname fsays pname psays cname csays checks properties condition participants crashes seen before (Exit name text) =
-    (more : List FinalizationUpdate) × (states : List StateView) × seen states × (started : Bool) × Fails cname csays condition (tracker_of (before ++ more)) states (target_count participants crashes started) name text
-Answered fname fsays pname psays cname csays checks properties condition participants crashes seen before (Fork update fault) = Unit {0}
-Answered fname fsays pname psays cname csays checks properties condition participants crashes seen before Timeout = Unit {0}
-Answered fname fsays pname psays cname csays checks properties condition participants crashes seen before EventLimit = Unit {0}
-Answered fname fsays pname psays cname csays checks properties condition participants crashes seen before Idle = Unit {0}
-Answered fname fsays pname psays cname csays checks properties condition participants crashes seen before (SkippedWindow height) = Unit {0}
-Answered fname fsays pname psays cname csays checks properties condition participants crashes seen before (NotExercised index) = Unit {0}
+-- where a check's fault ends a run, that check answers so: a check at a report and the exit condition at a
+-- moment that was seen, a property at the end
+abbrev pub Answered : {F P C : Type 0} → (F → List ℕ) → (F → List StateView → Option (List ℕ)) → (P → List ℕ) → (P → TrackerView → List StateView → Option (List ℕ)) → (C → List ℕ) → (C → TrackerView → List StateView → ℕ → Result Bool (List ℕ)) → List F → List P → Option C → List Peer → List Crash → (List FinalizationUpdate → List StateView → Type 0) → (List FinalizationUpdate → List StateView → Type 0) → List FinalizationUpdate → PlanFault → Type 0
+Answered fname fsays pname psays cname csays checks properties condition participants crashes seen ended before (FinalizationProperty name text) =
+    (more : List FinalizationUpdate) × (states : List StateView) × seen more states × Complains fname fsays checks states name text
+Answered fname fsays pname psays cname csays checks properties condition participants crashes seen ended before (Property name text) =
+    (more : List FinalizationUpdate) × (states : List StateView) × ended more states × Objects pname psays properties (tracker_of (before ++ more)) states name text
+Answered fname fsays pname psays cname csays checks properties condition participants crashes seen ended before (Exit name text) =
+    (more : List FinalizationUpdate) × (states : List StateView) × seen more states × (started : Bool) × Fails cname csays condition (tracker_of (before ++ more)) states (target_count participants crashes started) name text
+Answered fname fsays pname psays cname csays checks properties condition participants crashes seen ended before (Fork update fault) = Unit {0}
+Answered fname fsays pname psays cname csays checks properties condition participants crashes seen ended before Timeout = Unit {0}
+Answered fname fsays pname psays cname csays checks properties condition participants crashes seen ended before EventLimit = Unit {0}
+Answered fname fsays pname psays cname csays checks properties condition participants crashes seen ended before Idle = Unit {0}
+Answered fname fsays pname psays cname csays checks properties condition participants crashes seen ended before (SkippedWindow height) = Unit {0}
+Answered fname fsays pname psays cname csays checks properties condition participants crashes seen ended before (NotExercised index) = Unit {0}
 
 -- the same of a stop
-abbrev pub StopAnswered : {F P C : Type 0} → (F → List ℕ) → (F → List StateView → Option (List ℕ)) → (P → List ℕ) → (P → TrackerView → List StateView → Option (List ℕ)) → (C → List ℕ) → (C → TrackerView → List StateView → ℕ → Result Bool (List ℕ)) → List F → List P → Option C → List Peer → List Crash → (List StateView → Type 0) → List FinalizationUpdate → Stop → Type 0
-StopAnswered fname fsays pname psays cname csays checks properties condition participants crashes seen before (Fault fault) =
-    Answered fname fsays pname psays cname csays checks properties condition participants crashes seen before fault
-StopAnswered fname fsays pname psays cname csays checks properties condition participants crashes seen before OutOfMemory = Unit {0}
+abbrev pub StopAnswered : {F P C : Type 0} → (F → List ℕ) → (F → List StateView → Option (List ℕ)) → (P → List ℕ) → (P → TrackerView → List StateView → Option (List ℕ)) → (C → List ℕ) → (C → TrackerView → List StateView → ℕ → Result Bool (List ℕ)) → List F → List P → Option C → List Peer → List Crash → (List FinalizationUpdate → List StateView → Type 0) → (List FinalizationUpdate → List StateView → Type 0) → List FinalizationUpdate → Stop → Type 0
+StopAnswered fname fsays pname psays cname csays checks properties condition participants crashes seen ended before (Fault fault) =
+    Answered fname fsays pname psays cname csays checks properties condition participants crashes seen ended before fault
+StopAnswered fname fsays pname psays cname csays checks properties condition participants crashes seen ended before OutOfMemory = Unit {0}

@@ -98,7 +98,7 @@ fn take_report<D: EngineDefinition>(
     ensures updates { OnOk result (watch.new ≡ watch.old ++ update ∷ []) }
     ensures reached { IfOk result (λ o. IfSome o (λ r. IsReached (λ c. exit_verdict c) plan.now.exit_condition plan.now.required_finalizations (target_count plan.now.participants plan.now.crashes world.new.exercise.delayed_started) watch.new r)) }
     ensures comes { IfErr result (StopComes plan.now.crashes (λ u. u ≡ update) watch.old) }
-    ensures answered { IfErr result (StopAnswered (λ p. finalization_name p) (λ p. finalization_complaint p) (λ p. property_name p) (λ p. property_complaint p) (λ c. exit_name c) (λ c. exit_verdict c) plan.now.finalization_property plan.now.property plan.now.exit_condition plan.now.participants plan.now.crashes (Sees (D.peer_of plan.now.engine) D.State.height_of D.State.bytes_of agenda.old world.old) watch.old) }
+    ensures answered { IfErr result (StopAnswered (λ p. finalization_name p) (λ p. finalization_complaint p) (λ p. property_name p) (λ p. property_complaint p) (λ c. exit_name c) (λ c. exit_verdict c) plan.now.finalization_property plan.now.property plan.now.exit_condition plan.now.participants plan.now.crashes (Sees (D.peer_of plan.now.engine) D.State.height_of D.State.bytes_of agenda.old world.old (update ∷ [])) (λ more states. ⊥) watch.old) }
     ensures late { IfErr result (λ s. IsTrue (stops_late s)) }
 {
     match watch.observe(update) {
@@ -148,7 +148,7 @@ fn check_and_ask<D: EngineDefinition>(
 ) -> Result<Option<Reached>, Stop>
     ensures reached { IfOk result (λ o. IfSome o (λ r. IsReached (λ c. exit_verdict c) plan.now.exit_condition plan.now.required_finalizations (target_count plan.now.participants plan.now.crashes world.now.exercise.delayed_started) watch.now r)) }
     ensures asked { IfErr result (λ s. IsTrue (stops_asked s)) }
-    ensures answered { IfErr result (StopAnswered (λ p. finalization_name p) (λ p. finalization_complaint p) (λ p. property_name p) (λ p. property_complaint p) (λ c. exit_name c) (λ c. exit_verdict c) plan.now.finalization_property plan.now.property plan.now.exit_condition plan.now.participants plan.now.crashes (λ states. states ≡ active_views D.State.height_of D.State.bytes_of world.now.seats.entries) watch.now) }
+    ensures answered { IfErr result (StopAnswered (λ p. finalization_name p) (λ p. finalization_complaint p) (λ p. property_name p) (λ p. property_complaint p) (λ c. exit_name c) (λ c. exit_verdict c) plan.now.finalization_property plan.now.property plan.now.exit_condition plan.now.participants plan.now.crashes (λ more states. (more ≡ []) × (states ≡ active_views D.State.height_of D.State.bytes_of world.now.seats.entries)) (λ more states. ⊥) watch.now) }
     ensures late { IfErr result (λ s. IsTrue (stops_late s)) }
 {
     match check_now(plan, world) {
@@ -166,7 +166,7 @@ fn drain_report<D: EngineDefinition>(
 ) -> Result<(), Stop>
     ensures updates { OnOk result (watch.new ≡ watch.old ++ update ∷ []) }
     ensures comes { IfErr result (StopComes plan.now.crashes (λ u. u ≡ update) watch.old) }
-    ensures answered { IfErr result (StopAnswered (λ p. finalization_name p) (λ p. finalization_complaint p) (λ p. property_name p) (λ p. property_complaint p) (λ c. exit_name c) (λ c. exit_verdict c) plan.now.finalization_property plan.now.property plan.now.exit_condition plan.now.participants plan.now.crashes (λ states. states ≡ active_views D.State.height_of D.State.bytes_of world.now.seats.entries) watch.old) }
+    ensures answered { IfErr result (StopAnswered (λ p. finalization_name p) (λ p. finalization_complaint p) (λ p. property_name p) (λ p. property_complaint p) (λ c. exit_name c) (λ c. exit_verdict c) plan.now.finalization_property plan.now.property plan.now.exit_condition plan.now.participants plan.now.crashes (λ more states. (more ≡ update ∷ []) × (states ≡ active_views D.State.height_of D.State.bytes_of world.now.seats.entries)) (λ more states. ⊥) watch.old) }
     ensures late { IfErr result (λ s. IsTrue (stops_late s)) }
 {
     match watch.observe(update) {
@@ -194,7 +194,7 @@ fn next_report<D: EngineDefinition>(
     ensures updates { OnOk result (watch.new ≡ watch.old ++ update ∷ []) }
     ensures reached { IfOk result (λ o. IfSome o (λ r. IsReached (λ c. exit_verdict c) plan.now.exit_condition plan.now.required_finalizations (target_count plan.now.participants plan.now.crashes world.new.exercise.delayed_started) watch.new r)) }
     ensures comes { IfErr result (StopComes plan.now.crashes (λ u. u ≡ update) watch.old) }
-    ensures answered { IfErr result (StopAnswered (λ p. finalization_name p) (λ p. finalization_complaint p) (λ p. property_name p) (λ p. property_complaint p) (λ c. exit_name c) (λ c. exit_verdict c) plan.now.finalization_property plan.now.property plan.now.exit_condition plan.now.participants plan.now.crashes (Sees (D.peer_of plan.now.engine) D.State.height_of D.State.bytes_of agenda.old world.old) watch.old) }
+    ensures answered { IfErr result (StopAnswered (λ p. finalization_name p) (λ p. finalization_complaint p) (λ p. property_name p) (λ p. property_complaint p) (λ c. exit_name c) (λ c. exit_verdict c) plan.now.finalization_property plan.now.property plan.now.exit_condition plan.now.participants plan.now.crashes (Sees (D.peer_of plan.now.engine) D.State.height_of D.State.bytes_of agenda.old world.old (update ∷ [])) (λ more states. ⊥) watch.old) }
     ensures late { IfErr result (λ s. IsTrue (stops_late s)) }
 {
     match reached {
@@ -219,7 +219,7 @@ pub fn take_reports<D: EngineDefinition>(
     ensures updates { OnOk result (watch.new ≡ watch.old ++ updates.items) }
     ensures reached { IfOk result (λ o. IfSome o (λ r. IsReached (λ c. exit_verdict c) plan.now.exit_condition plan.now.required_finalizations (target_count plan.now.participants plan.now.crashes world.new.exercise.delayed_started) watch.new r)) }
     ensures comes { IfErr result (StopComes plan.now.crashes (Contains updates.items) watch.old) }
-    ensures answered { IfErr result (StopAnswered (λ p. finalization_name p) (λ p. finalization_complaint p) (λ p. property_name p) (λ p. property_complaint p) (λ c. exit_name c) (λ c. exit_verdict c) plan.now.finalization_property plan.now.property plan.now.exit_condition plan.now.participants plan.now.crashes (Sees (D.peer_of plan.now.engine) D.State.height_of D.State.bytes_of agenda.old world.old) watch.old) }
+    ensures answered { IfErr result (StopAnswered (λ p. finalization_name p) (λ p. finalization_complaint p) (λ p. property_name p) (λ p. property_complaint p) (λ c. exit_name c) (λ c. exit_verdict c) plan.now.finalization_property plan.now.property plan.now.exit_condition plan.now.participants plan.now.crashes (Sees (D.peer_of plan.now.engine) D.State.height_of D.State.bytes_of agenda.old world.old updates.items) (λ more states. ⊥) watch.old) }
     ensures late { IfErr result (λ s. IsTrue (stops_late s)) }
 {
     let mut reached = None;

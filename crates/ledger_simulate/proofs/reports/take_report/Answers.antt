@@ -1,4 +1,4 @@
-use Rattle.std.proofs.Common.{◌≡◌, ◌∷◌, []}
+use Rattle.std.proofs.Common.{◌≡◌, ◌∷◌, [], ◌++◌}
 use Rattle.ledger_simulate.proofs.Causing.{stop_asked, stop_forks, stop_skips}
 use Rattle.ledger_simulate.proofs.Stirring.{disturbs_then}
 use Rattle.ledger_simulate.proofs.Answering.{stop_answered_since, sees_now, sees_then}
@@ -22,8 +22,9 @@ returns-in-Err-check_and_ask-clause-comes g c = stop_asked c.args.plan.now.crash
 
 pub returns-in-Err-check_and_ask-clause-answered : goal.returns-in-Err-check_and_ask-clause-answered
 returns-in-Err-check_and_ask-clause-answered g c =
-    stop_answered_since (λ x. (goal.FinalizationProperty-dyn g (x.vtable, x.value)).finalization_name x.value) (λ x. (goal.FinalizationProperty-dyn g (x.vtable, x.value)).finalization_complaint x.value) (λ x. (goal.Property-dyn g (x.vtable, x.value)).property_name x.value) (λ x. (goal.Property-dyn g (x.vtable, x.value)).property_complaint x.value) (λ x. (goal.ExitCondition-dyn g (x.vtable, x.value)).exit_name x.value) (λ x. (goal.ExitCondition-dyn g (x.vtable, x.value)).exit_verdict x.value) c.args.plan.now.finalization_property c.args.plan.now.property c.args.plan.now.exit_condition c.args.plan.now.participants c.args.plan.now.crashes (λ v. v ≡ active_views g.D.State.ProcessedHeight.height_of g.D.State.ProcessedHeight.bytes_of c.enter_windows.new.self.seats.entries) (Sees (g.D.EngineDefinition.peer_of c.args.plan.now.engine) g.D.State.ProcessedHeight.height_of g.D.State.ProcessedHeight.bytes_of c.args.agenda.now c.args.world.now)
-    (λ v are.
-    sees_then (g.D.EngineDefinition.peer_of c.args.plan.now.engine) g.D.State.ProcessedHeight.height_of g.D.State.ProcessedHeight.bytes_of c.args.agenda.now c.enter_windows.new.agenda c.args.world.now c.enter_windows.new.self v c.in-Ok-enter_windows.ensures.disturbs
-    (sees_now (g.D.EngineDefinition.peer_of c.args.plan.now.engine) g.D.State.ProcessedHeight.height_of g.D.State.ProcessedHeight.bytes_of c.enter_windows.new.agenda c.enter_windows.new.self v are))
-    c.args.watch.now c.observe.new.self (c.args.update ∷ []) c.in-Ok.ensures.ok c.in-Err-check_and_ask.stop c.in-Err-check_and_ask.ensures.answered
+    stop_answered_since (λ x. (goal.FinalizationProperty-dyn g (x.vtable, x.value)).finalization_name x.value) (λ x. (goal.FinalizationProperty-dyn g (x.vtable, x.value)).finalization_complaint x.value) (λ x. (goal.Property-dyn g (x.vtable, x.value)).property_name x.value) (λ x. (goal.Property-dyn g (x.vtable, x.value)).property_complaint x.value) (λ x. (goal.ExitCondition-dyn g (x.vtable, x.value)).exit_name x.value) (λ x. (goal.ExitCondition-dyn g (x.vtable, x.value)).exit_verdict x.value) c.args.plan.now.finalization_property c.args.plan.now.property c.args.plan.now.exit_condition c.args.plan.now.participants c.args.plan.now.crashes (λ m v. (m ≡ []) × (v ≡ active_views g.D.State.ProcessedHeight.height_of g.D.State.ProcessedHeight.bytes_of c.enter_windows.new.self.seats.entries)) (λ m v. ⊥) (Sees (g.D.EngineDefinition.peer_of c.args.plan.now.engine) g.D.State.ProcessedHeight.height_of g.D.State.ProcessedHeight.bytes_of c.args.agenda.now c.args.world.now (c.args.update ∷ [])) (λ m v. ⊥)
+    c.args.watch.now c.observe.new.self (c.args.update ∷ [])
+    (λ m v is.
+    sees_then (g.D.EngineDefinition.peer_of c.args.plan.now.engine) g.D.State.ProcessedHeight.height_of g.D.State.ProcessedHeight.bytes_of c.args.agenda.now c.enter_windows.new.agenda c.args.world.now c.enter_windows.new.self (c.args.update ∷ []) ((c.args.update ∷ []) ++ m) v c.in-Ok-enter_windows.ensures.disturbs
+    (sees_now (g.D.EngineDefinition.peer_of c.args.plan.now.engine) g.D.State.ProcessedHeight.height_of g.D.State.ProcessedHeight.bytes_of c.enter_windows.new.agenda c.enter_windows.new.self (c.args.update ∷ []) m v is))
+    (λ m v never. absurd never) c.in-Ok.ensures.ok c.in-Err-check_and_ask.stop c.in-Err-check_and_ask.ensures.answered

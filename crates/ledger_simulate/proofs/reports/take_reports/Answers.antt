@@ -4,7 +4,7 @@ use Rattle.std.proofs.lemmas.List.{append_assoc}
 use Rattle.ledger_simulate.proofs.Causing.{among_first, among_more, stop_wider}
 use Rattle.ledger_simulate.proofs.Reaches.{updates_more}
 use Rattle.ledger_simulate.proofs.Stirring.{disturbs_then}
-use Rattle.ledger_simulate.proofs.Answering.{stop_answered_since, sees_then}
+use Rattle.ledger_simulate.proofs.Answering.{stop_answered_since, sees_then, left_more, sees_among}
 use Rattle.ledger_simulate.specs.Answering.{Sees}
 use Rattle.ledger_simulate.proofs.reports.take_reports.Goals as goal
 
@@ -13,8 +13,11 @@ loop-update-preserved g c = record {
   disturbs =
       disturbs_then (g.D.EngineDefinition.peer_of c.args.plan.now.engine) c.args.agenda.now c.loop-update.agenda c.next_report.new.agenda c.args.world.now c.loop-update.world c.next_report.new.world
       c.loop-update.invariant.disturbs c.in-Ok.ensures.disturbs;
-  since =
-      (c.loop-update.invariant.since.0 ++ c.in-Some.update ∷ [], c.in-Ok.ensures.updates ∙ ap (λ us. us ++ c.in-Some.update ∷ []) c.loop-update.invariant.since.1 ∙ append_assoc c.args.watch.now c.loop-update.invariant.since.0 (c.in-Some.update ∷ []));
+  since = (
+    c.loop-update.invariant.since.0 ++ c.in-Some.update ∷ [],
+    c.in-Ok.ensures.updates ∙ ap (λ us. us ++ c.in-Some.update ∷ []) c.loop-update.invariant.since.1 ∙ append_assoc c.args.watch.now c.loop-update.invariant.since.0 (c.in-Some.update ∷ []),
+    left_more c.loop-update.invariant.since.0 (into_iter_items c.loop-update.update-iterator) (into_iter_items c.next.new.self) c.args.updates.items c.in-Some.update c.loop-update.invariant.since.2 c.in-Some.ensures.steps.0,
+  );
   among = λ u left. c.loop-update.invariant.among u (among_more (into_iter_items c.loop-update.update-iterator) (into_iter_items c.next.new.self) c.in-Some.update u c.in-Some.ensures.steps.0 left);
   updates =
       updates_more c.loop-update.watch c.next_report.new.watch c.args.watch.now c.args.updates.items (into_iter_items c.loop-update.update-iterator) (into_iter_items c.next.new.self) c.in-Some.update
@@ -30,6 +33,10 @@ returns-in-Err-clause-comes g c =
 
 pub returns-in-Err-clause-answered : goal.returns-in-Err-clause-answered
 returns-in-Err-clause-answered g c =
-    stop_answered_since (λ x. (goal.FinalizationProperty-dyn g (x.vtable, x.value)).finalization_name x.value) (λ x. (goal.FinalizationProperty-dyn g (x.vtable, x.value)).finalization_complaint x.value) (λ x. (goal.Property-dyn g (x.vtable, x.value)).property_name x.value) (λ x. (goal.Property-dyn g (x.vtable, x.value)).property_complaint x.value) (λ x. (goal.ExitCondition-dyn g (x.vtable, x.value)).exit_name x.value) (λ x. (goal.ExitCondition-dyn g (x.vtable, x.value)).exit_verdict x.value) c.args.plan.now.finalization_property c.args.plan.now.property c.args.plan.now.exit_condition c.args.plan.now.participants c.args.plan.now.crashes (Sees (g.D.EngineDefinition.peer_of c.args.plan.now.engine) g.D.State.ProcessedHeight.height_of g.D.State.ProcessedHeight.bytes_of c.loop-update.agenda c.loop-update.world) (Sees (g.D.EngineDefinition.peer_of c.args.plan.now.engine) g.D.State.ProcessedHeight.height_of g.D.State.ProcessedHeight.bytes_of c.args.agenda.now c.args.world.now)
-    (λ v sees. sees_then (g.D.EngineDefinition.peer_of c.args.plan.now.engine) g.D.State.ProcessedHeight.height_of g.D.State.ProcessedHeight.bytes_of c.args.agenda.now c.loop-update.agenda c.args.world.now c.loop-update.world v c.loop-update.invariant.disturbs sees)
-    c.args.watch.now c.loop-update.watch c.loop-update.invariant.since.0 c.loop-update.invariant.since.1 c.in-Err.stop c.in-Err.ensures.answered
+    let done = c.loop-update.invariant.since.0 in
+    stop_answered_since (λ x. (goal.FinalizationProperty-dyn g (x.vtable, x.value)).finalization_name x.value) (λ x. (goal.FinalizationProperty-dyn g (x.vtable, x.value)).finalization_complaint x.value) (λ x. (goal.Property-dyn g (x.vtable, x.value)).property_name x.value) (λ x. (goal.Property-dyn g (x.vtable, x.value)).property_complaint x.value) (λ x. (goal.ExitCondition-dyn g (x.vtable, x.value)).exit_name x.value) (λ x. (goal.ExitCondition-dyn g (x.vtable, x.value)).exit_verdict x.value) c.args.plan.now.finalization_property c.args.plan.now.property c.args.plan.now.exit_condition c.args.plan.now.participants c.args.plan.now.crashes (Sees (g.D.EngineDefinition.peer_of c.args.plan.now.engine) g.D.State.ProcessedHeight.height_of g.D.State.ProcessedHeight.bytes_of c.loop-update.agenda c.loop-update.world (c.in-Some.update ∷ [])) (λ m v. ⊥) (Sees (g.D.EngineDefinition.peer_of c.args.plan.now.engine) g.D.State.ProcessedHeight.height_of g.D.State.ProcessedHeight.bytes_of c.args.agenda.now c.args.world.now c.args.updates.items) (λ m v. ⊥)
+    c.args.watch.now c.loop-update.watch done
+    (λ m v sees.
+    sees_then (g.D.EngineDefinition.peer_of c.args.plan.now.engine) g.D.State.ProcessedHeight.height_of g.D.State.ProcessedHeight.bytes_of c.args.agenda.now c.loop-update.agenda c.args.world.now c.loop-update.world c.args.updates.items (done ++ m) v c.loop-update.invariant.disturbs
+    (sees_among (g.D.EngineDefinition.peer_of c.args.plan.now.engine) g.D.State.ProcessedHeight.height_of g.D.State.ProcessedHeight.bytes_of c.loop-update.agenda c.loop-update.world c.in-Some.update done (into_iter_items c.loop-update.update-iterator) (into_iter_items c.next.new.self) c.args.updates.items m v c.loop-update.invariant.since.2 c.in-Some.ensures.steps.0 sees))
+    (λ m v never. absurd never) c.loop-update.invariant.since.1 c.in-Err.stop c.in-Err.ensures.answered

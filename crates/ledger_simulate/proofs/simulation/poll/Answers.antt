@@ -14,5 +14,5 @@ returns-in-Ok-clause-stirs g c =
 
 pub returns-in-Ok-clause-answered : goal.returns-in-Ok-clause-answered
 returns-in-Ok-clause-answered g c =
-    if_answered_fails (λ x. (goal.FinalizationProperty-dyn g (x.vtable, x.value)).finalization_name x.value) (λ x. (goal.FinalizationProperty-dyn g (x.vtable, x.value)).finalization_complaint x.value) (λ x. (goal.Property-dyn g (x.vtable, x.value)).property_name x.value) (λ x. (goal.Property-dyn g (x.vtable, x.value)).property_complaint x.value) (λ x. (goal.ExitCondition-dyn g (x.vtable, x.value)).exit_name x.value) (λ x. (goal.ExitCondition-dyn g (x.vtable, x.value)).exit_verdict x.value) c.args.plan.now.finalization_property c.args.plan.now.property c.args.plan.now.exit_condition c.args.plan.now.participants c.args.plan.now.crashes (Beholds (g.D.EngineDefinition.peer_of c.args.plan.now.engine) (g.D.EngineDefinition.journal c.args.plan.now.engine) (g.D.EngineDefinition.reports c.args.plan.now.engine) g.D.State.ProcessedHeight.height_of g.D.State.ProcessedHeight.bytes_of c.args.agenda.now c.args.world.now)
-    c.args.watch.now c.in-Ok.states.items c.args.world.now.exercise.delayed_started c.ask.result (inl c.in-Ok.ensures.views) c.ask.ensures.fails
+    if_answered_fails (λ x. (goal.FinalizationProperty-dyn g (x.vtable, x.value)).finalization_name x.value) (λ x. (goal.FinalizationProperty-dyn g (x.vtable, x.value)).finalization_complaint x.value) (λ x. (goal.Property-dyn g (x.vtable, x.value)).property_name x.value) (λ x. (goal.Property-dyn g (x.vtable, x.value)).property_complaint x.value) (λ x. (goal.ExitCondition-dyn g (x.vtable, x.value)).exit_name x.value) (λ x. (goal.ExitCondition-dyn g (x.vtable, x.value)).exit_verdict x.value) c.args.plan.now.finalization_property c.args.plan.now.property c.args.plan.now.exit_condition c.args.plan.now.participants c.args.plan.now.crashes (Beholds (g.D.EngineDefinition.peer_of c.args.plan.now.engine) (g.D.EngineDefinition.journal c.args.plan.now.engine) (g.D.EngineDefinition.reports c.args.plan.now.engine) g.D.State.ProcessedHeight.height_of g.D.State.ProcessedHeight.bytes_of c.args.agenda.now c.args.world.now) (λ m v. ⊥)
+    c.args.watch.now c.in-Ok.states.items c.args.world.now.exercise.delayed_started c.ask.result (inl (refl, c.in-Ok.ensures.views)) c.ask.ensures.fails

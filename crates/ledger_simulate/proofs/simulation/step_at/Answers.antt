@@ -46,10 +46,11 @@ returns-in-Ok-clause-comes g c =
 pub returns-in-Ok-clause-answered : goal.returns-in-Ok-clause-answered
 returns-in-Ok-clause-answered g c =
     let given = c.in-Ok.ensures in
-    if_err_map (StopAnswered (λ x. (goal.FinalizationProperty-dyn g (x.vtable, x.value)).finalization_name x.value) (λ x. (goal.FinalizationProperty-dyn g (x.vtable, x.value)).finalization_complaint x.value) (λ x. (goal.Property-dyn g (x.vtable, x.value)).property_name x.value) (λ x. (goal.Property-dyn g (x.vtable, x.value)).property_complaint x.value) (λ x. (goal.ExitCondition-dyn g (x.vtable, x.value)).exit_name x.value) (λ x. (goal.ExitCondition-dyn g (x.vtable, x.value)).exit_verdict x.value) c.args.plan.now.finalization_property c.args.plan.now.property c.args.plan.now.exit_condition c.args.plan.now.participants c.args.plan.now.crashes (Sees (g.D.EngineDefinition.peer_of c.args.plan.now.engine) g.D.State.ProcessedHeight.height_of g.D.State.ProcessedHeight.bytes_of c.step_and_send.new.agenda c.step_and_send.new.world) c.args.watch.now)
-    (StopAnswered (λ x. (goal.FinalizationProperty-dyn g (x.vtable, x.value)).finalization_name x.value) (λ x. (goal.FinalizationProperty-dyn g (x.vtable, x.value)).finalization_complaint x.value) (λ x. (goal.Property-dyn g (x.vtable, x.value)).property_name x.value) (λ x. (goal.Property-dyn g (x.vtable, x.value)).property_complaint x.value) (λ x. (goal.ExitCondition-dyn g (x.vtable, x.value)).exit_name x.value) (λ x. (goal.ExitCondition-dyn g (x.vtable, x.value)).exit_verdict x.value) c.args.plan.now.finalization_property c.args.plan.now.property c.args.plan.now.exit_condition c.args.plan.now.participants c.args.plan.now.crashes (Beholds (g.D.EngineDefinition.peer_of c.args.plan.now.engine) (g.D.EngineDefinition.journal c.args.plan.now.engine) (g.D.EngineDefinition.reports c.args.plan.now.engine) g.D.State.ProcessedHeight.height_of g.D.State.ProcessedHeight.bytes_of c.args.agenda.now c.args.world.now) c.args.watch.now)
-    (stop_answered_since (λ x. (goal.FinalizationProperty-dyn g (x.vtable, x.value)).finalization_name x.value) (λ x. (goal.FinalizationProperty-dyn g (x.vtable, x.value)).finalization_complaint x.value) (λ x. (goal.Property-dyn g (x.vtable, x.value)).property_name x.value) (λ x. (goal.Property-dyn g (x.vtable, x.value)).property_complaint x.value) (λ x. (goal.ExitCondition-dyn g (x.vtable, x.value)).exit_name x.value) (λ x. (goal.ExitCondition-dyn g (x.vtable, x.value)).exit_verdict x.value) c.args.plan.now.finalization_property c.args.plan.now.property c.args.plan.now.exit_condition c.args.plan.now.participants c.args.plan.now.crashes (Sees (g.D.EngineDefinition.peer_of c.args.plan.now.engine) g.D.State.ProcessedHeight.height_of g.D.State.ProcessedHeight.bytes_of c.step_and_send.new.agenda c.step_and_send.new.world) (Beholds (g.D.EngineDefinition.peer_of c.args.plan.now.engine) (g.D.EngineDefinition.journal c.args.plan.now.engine) (g.D.EngineDefinition.reports c.args.plan.now.engine) g.D.State.ProcessedHeight.height_of g.D.State.ProcessedHeight.bytes_of c.args.agenda.now c.args.world.now)
-    (λ v sees. inr (record {
+    if_err_map (StopAnswered (λ x. (goal.FinalizationProperty-dyn g (x.vtable, x.value)).finalization_name x.value) (λ x. (goal.FinalizationProperty-dyn g (x.vtable, x.value)).finalization_complaint x.value) (λ x. (goal.Property-dyn g (x.vtable, x.value)).property_name x.value) (λ x. (goal.Property-dyn g (x.vtable, x.value)).property_complaint x.value) (λ x. (goal.ExitCondition-dyn g (x.vtable, x.value)).exit_name x.value) (λ x. (goal.ExitCondition-dyn g (x.vtable, x.value)).exit_verdict x.value) c.args.plan.now.finalization_property c.args.plan.now.property c.args.plan.now.exit_condition c.args.plan.now.participants c.args.plan.now.crashes (Sees (g.D.EngineDefinition.peer_of c.args.plan.now.engine) g.D.State.ProcessedHeight.height_of g.D.State.ProcessedHeight.bytes_of c.step_and_send.new.agenda c.step_and_send.new.world c.in-Ok.updates.items) (λ m v. ⊥) c.args.watch.now)
+    (StopAnswered (λ x. (goal.FinalizationProperty-dyn g (x.vtable, x.value)).finalization_name x.value) (λ x. (goal.FinalizationProperty-dyn g (x.vtable, x.value)).finalization_complaint x.value) (λ x. (goal.Property-dyn g (x.vtable, x.value)).property_name x.value) (λ x. (goal.Property-dyn g (x.vtable, x.value)).property_complaint x.value) (λ x. (goal.ExitCondition-dyn g (x.vtable, x.value)).exit_name x.value) (λ x. (goal.ExitCondition-dyn g (x.vtable, x.value)).exit_verdict x.value) c.args.plan.now.finalization_property c.args.plan.now.property c.args.plan.now.exit_condition c.args.plan.now.participants c.args.plan.now.crashes (Beholds (g.D.EngineDefinition.peer_of c.args.plan.now.engine) (g.D.EngineDefinition.journal c.args.plan.now.engine) (g.D.EngineDefinition.reports c.args.plan.now.engine) g.D.State.ProcessedHeight.height_of g.D.State.ProcessedHeight.bytes_of c.args.agenda.now c.args.world.now) (λ m v. ⊥) c.args.watch.now)
+    (stop_answered_since (λ x. (goal.FinalizationProperty-dyn g (x.vtable, x.value)).finalization_name x.value) (λ x. (goal.FinalizationProperty-dyn g (x.vtable, x.value)).finalization_complaint x.value) (λ x. (goal.Property-dyn g (x.vtable, x.value)).property_name x.value) (λ x. (goal.Property-dyn g (x.vtable, x.value)).property_complaint x.value) (λ x. (goal.ExitCondition-dyn g (x.vtable, x.value)).exit_name x.value) (λ x. (goal.ExitCondition-dyn g (x.vtable, x.value)).exit_verdict x.value) c.args.plan.now.finalization_property c.args.plan.now.property c.args.plan.now.exit_condition c.args.plan.now.participants c.args.plan.now.crashes (Sees (g.D.EngineDefinition.peer_of c.args.plan.now.engine) g.D.State.ProcessedHeight.height_of g.D.State.ProcessedHeight.bytes_of c.step_and_send.new.agenda c.step_and_send.new.world c.in-Ok.updates.items) (λ m v. ⊥) (Beholds (g.D.EngineDefinition.peer_of c.args.plan.now.engine) (g.D.EngineDefinition.journal c.args.plan.now.engine) (g.D.EngineDefinition.reports c.args.plan.now.engine) g.D.State.ProcessedHeight.height_of g.D.State.ProcessedHeight.bytes_of c.args.agenda.now c.args.world.now) (λ m v. ⊥)
+    c.args.watch.now c.args.watch.now []
+    (λ m v sees. inr (record {
       pk = c.args.told.pk;
       birth = c.in-Some.birth;
       event = c.args.told.event;
@@ -57,7 +58,7 @@ returns-in-Ok-clause-answered g c =
       given = c.step_and_send.new.agenda;
       mid = c.step_and_send.new.world;
       gives = given.1;
-      sees = sees;
+      sees = subst (λ us. Sees (g.D.EngineDefinition.peer_of c.args.plan.now.engine) g.D.State.ProcessedHeight.height_of g.D.State.ProcessedHeight.bytes_of c.step_and_send.new.agenda c.step_and_send.new.world us m v) given.2 sees;
     }))
-    c.args.watch.now c.args.watch.now [] (sym (append-nil c.args.watch.now)))
+    (λ m v never. absurd never) (sym (append-nil c.args.watch.now)))
     c.take_reports.result c.take_reports.ensures.answered

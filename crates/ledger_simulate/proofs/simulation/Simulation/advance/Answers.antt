@@ -3,11 +3,12 @@ use Rattle.std.proofs.lemmas.List.{append-nil}
 use Rattle.simulate_parts.specs.Engine.{Passes}
 use Rattle.ledger_simulate.specs.Causes.{StopComes}
 use Rattle.ledger_simulate.specs.Handling.{Seated, number_after}
+use Rattle.ledger_simulate.specs.Plans.{target_count}
 use Rattle.ledger_simulate.specs.Queue.{empty_agenda}
 use Rattle.ledger_simulate.proofs.Causing.{ends_by, stop_wider}
 use Rattle.ledger_simulate.proofs.Proceeding.{goes_on, grows_by, seated_begun}
-use Rattle.ledger_simulate.proofs.Answering.{answered_since, agenda_begun, stop_answered_since}
-use Rattle.ledger_simulate.specs.Answering.{Beholds, StopAnswered}
+use Rattle.ledger_simulate.proofs.Answering.{answered_since, agenda_begun, stop_answered_since, ends_of}
+use Rattle.ledger_simulate.specs.Answering.{Beholds, StopAnswered, Ends, EndsAt}
 use Rattle.ledger_simulate.proofs.simulation.Simulation.advance.Goals as goal
 
 pub returns-in-Ok-None-clause-on : goal.returns-in-Ok-None-clause-on
@@ -43,14 +44,21 @@ returns-clause-comes g c = λ e h.
 
 pub returns-in-Ok-Some-clause-answered : goal.returns-in-Ok-Some-clause-answered
 returns-in-Ok-Some-clause-answered g c = λ e h.
-    answered_since (λ x. (goal.FinalizationProperty-dyn g (x.vtable, x.value)).finalization_name x.value) (λ x. (goal.FinalizationProperty-dyn g (x.vtable, x.value)).finalization_complaint x.value) (λ x. (goal.Property-dyn g (x.vtable, x.value)).property_name x.value) (λ x. (goal.Property-dyn g (x.vtable, x.value)).property_complaint x.value) (λ x. (goal.ExitCondition-dyn g (x.vtable, x.value)).exit_name x.value) (λ x. (goal.ExitCondition-dyn g (x.vtable, x.value)).exit_verdict x.value) c.args.self.plan.now.finalization_property c.args.self.plan.now.property c.args.self.plan.now.exit_condition c.args.self.plan.now.participants c.args.self.plan.now.crashes (λ v. ⊥) (Beholds (g.D.EngineDefinition.peer_of c.args.self.plan.now.engine) (g.D.EngineDefinition.journal c.args.self.plan.now.engine) (g.D.EngineDefinition.reports c.args.self.plan.now.engine) g.D.State.ProcessedHeight.height_of g.D.State.ProcessedHeight.bytes_of (empty_agenda c.args.self.queue.next) c.args.self.world) (λ v never. absurd never)
-    c.args.self.watch c.handle-outcome.new.watch c.in-Ok-Some.ensures.updates.added c.in-Ok-Some.ensures.updates.is e.fault (c.finish.ensures.answered e h)
+    let grown = c.in-Ok-Some.ensures.updates in
+    answered_since (λ x. (goal.FinalizationProperty-dyn g (x.vtable, x.value)).finalization_name x.value) (λ x. (goal.FinalizationProperty-dyn g (x.vtable, x.value)).finalization_complaint x.value) (λ x. (goal.Property-dyn g (x.vtable, x.value)).property_name x.value) (λ x. (goal.Property-dyn g (x.vtable, x.value)).property_complaint x.value) (λ x. (goal.ExitCondition-dyn g (x.vtable, x.value)).exit_name x.value) (λ x. (goal.ExitCondition-dyn g (x.vtable, x.value)).exit_verdict x.value) c.args.self.plan.now.finalization_property c.args.self.plan.now.property c.args.self.plan.now.exit_condition c.args.self.plan.now.participants c.args.self.plan.now.crashes (λ m v. ⊥) (EndsAt (λ x. (goal.ExitCondition-dyn g (x.vtable, x.value)).exit_verdict x.value) c.args.self.plan.now.exit_condition c.args.self.plan.now.required_finalizations (target_count c.args.self.plan.now.participants c.args.self.plan.now.crashes c.handle-outcome.new.world.exercise.delayed_started) c.handle-outcome.new.watch) (Beholds (g.D.EngineDefinition.peer_of c.args.self.plan.now.engine) (g.D.EngineDefinition.journal c.args.self.plan.now.engine) (g.D.EngineDefinition.reports c.args.self.plan.now.engine) g.D.State.ProcessedHeight.height_of g.D.State.ProcessedHeight.bytes_of (empty_agenda c.args.self.queue.next) c.args.self.world) (Ends (g.D.EngineDefinition.peer_of c.args.self.plan.now.engine) (g.D.EngineDefinition.journal c.args.self.plan.now.engine) (g.D.EngineDefinition.reports c.args.self.plan.now.engine) (λ x. (goal.ExitCondition-dyn g (x.vtable, x.value)).exit_verdict x.value) c.args.self.plan.now.exit_condition c.args.self.plan.now.required_finalizations c.args.self.plan.now.participants c.args.self.plan.now.crashes c.args.self.queue c.args.self.watch c.args.self.world)
+    c.args.self.watch c.handle-outcome.new.watch grown.added (λ m v never. absurd never)
+    (λ m v is.
+    ends_of (g.D.EngineDefinition.peer_of c.args.self.plan.now.engine) (g.D.EngineDefinition.journal c.args.self.plan.now.engine) (g.D.EngineDefinition.reports c.args.self.plan.now.engine) (λ x. (goal.ExitCondition-dyn g (x.vtable, x.value)).exit_verdict x.value) c.args.self.plan.now.exit_condition c.args.self.plan.now.required_finalizations c.args.self.plan.now.participants c.args.self.plan.now.crashes c.args.self.queue c.take.new.self c.in-Some.entry c.new-agenda.result c.handle-outcome.new.agenda
+    c.args.self.watch c.handle-outcome.new.watch grown.added m c.args.self.world c.handle-outcome.new.world v c.in-Some.ensures.taken (c.new-agenda.ensures ∙ ap empty_agenda c.next.ensures)
+    c.in-Ok-Some.ensures.handled grown.is is)
+    grown.is e.fault (c.finish.ensures.answered e h)
 
 pub returns-clause-answered : goal.returns-clause-answered
 returns-clause-answered g c = λ e h.
-    subst (StopAnswered (λ x. (goal.FinalizationProperty-dyn g (x.vtable, x.value)).finalization_name x.value) (λ x. (goal.FinalizationProperty-dyn g (x.vtable, x.value)).finalization_complaint x.value) (λ x. (goal.Property-dyn g (x.vtable, x.value)).property_name x.value) (λ x. (goal.Property-dyn g (x.vtable, x.value)).property_complaint x.value) (λ x. (goal.ExitCondition-dyn g (x.vtable, x.value)).exit_name x.value) (λ x. (goal.ExitCondition-dyn g (x.vtable, x.value)).exit_verdict x.value) c.args.self.plan.now.finalization_property c.args.self.plan.now.property c.args.self.plan.now.exit_condition c.args.self.plan.now.participants c.args.self.plan.now.crashes (Beholds (g.D.EngineDefinition.peer_of c.args.self.plan.now.engine) (g.D.EngineDefinition.journal c.args.self.plan.now.engine) (g.D.EngineDefinition.reports c.args.self.plan.now.engine) g.D.State.ProcessedHeight.height_of g.D.State.ProcessedHeight.bytes_of (empty_agenda c.args.self.queue.next) c.args.self.world) c.args.self.watch) (ends_by c.in-Err.stop c.stopped.result _ _ _ _ e c.stopped.ensures h).0
-    (stop_answered_since (λ x. (goal.FinalizationProperty-dyn g (x.vtable, x.value)).finalization_name x.value) (λ x. (goal.FinalizationProperty-dyn g (x.vtable, x.value)).finalization_complaint x.value) (λ x. (goal.Property-dyn g (x.vtable, x.value)).property_name x.value) (λ x. (goal.Property-dyn g (x.vtable, x.value)).property_complaint x.value) (λ x. (goal.ExitCondition-dyn g (x.vtable, x.value)).exit_name x.value) (λ x. (goal.ExitCondition-dyn g (x.vtable, x.value)).exit_verdict x.value) c.args.self.plan.now.finalization_property c.args.self.plan.now.property c.args.self.plan.now.exit_condition c.args.self.plan.now.participants c.args.self.plan.now.crashes (Beholds (g.D.EngineDefinition.peer_of c.args.self.plan.now.engine) (g.D.EngineDefinition.journal c.args.self.plan.now.engine) (g.D.EngineDefinition.reports c.args.self.plan.now.engine) g.D.State.ProcessedHeight.height_of g.D.State.ProcessedHeight.bytes_of c.new-agenda.result c.args.self.world) (Beholds (g.D.EngineDefinition.peer_of c.args.self.plan.now.engine) (g.D.EngineDefinition.journal c.args.self.plan.now.engine) (g.D.EngineDefinition.reports c.args.self.plan.now.engine) g.D.State.ProcessedHeight.height_of g.D.State.ProcessedHeight.bytes_of (empty_agenda c.args.self.queue.next) c.args.self.world)
-    (λ v beheld.
-    subst (λ a. Beholds (g.D.EngineDefinition.peer_of c.args.self.plan.now.engine) (g.D.EngineDefinition.journal c.args.self.plan.now.engine) (g.D.EngineDefinition.reports c.args.self.plan.now.engine) g.D.State.ProcessedHeight.height_of g.D.State.ProcessedHeight.bytes_of a c.args.self.world v)
+    subst (StopAnswered (λ x. (goal.FinalizationProperty-dyn g (x.vtable, x.value)).finalization_name x.value) (λ x. (goal.FinalizationProperty-dyn g (x.vtable, x.value)).finalization_complaint x.value) (λ x. (goal.Property-dyn g (x.vtable, x.value)).property_name x.value) (λ x. (goal.Property-dyn g (x.vtable, x.value)).property_complaint x.value) (λ x. (goal.ExitCondition-dyn g (x.vtable, x.value)).exit_name x.value) (λ x. (goal.ExitCondition-dyn g (x.vtable, x.value)).exit_verdict x.value) c.args.self.plan.now.finalization_property c.args.self.plan.now.property c.args.self.plan.now.exit_condition c.args.self.plan.now.participants c.args.self.plan.now.crashes (Beholds (g.D.EngineDefinition.peer_of c.args.self.plan.now.engine) (g.D.EngineDefinition.journal c.args.self.plan.now.engine) (g.D.EngineDefinition.reports c.args.self.plan.now.engine) g.D.State.ProcessedHeight.height_of g.D.State.ProcessedHeight.bytes_of (empty_agenda c.args.self.queue.next) c.args.self.world) (Ends (g.D.EngineDefinition.peer_of c.args.self.plan.now.engine) (g.D.EngineDefinition.journal c.args.self.plan.now.engine) (g.D.EngineDefinition.reports c.args.self.plan.now.engine) (λ x. (goal.ExitCondition-dyn g (x.vtable, x.value)).exit_verdict x.value) c.args.self.plan.now.exit_condition c.args.self.plan.now.required_finalizations c.args.self.plan.now.participants c.args.self.plan.now.crashes c.args.self.queue c.args.self.watch c.args.self.world) c.args.self.watch) (ends_by c.in-Err.stop c.stopped.result _ _ _ _ e c.stopped.ensures h).0
+    (stop_answered_since (λ x. (goal.FinalizationProperty-dyn g (x.vtable, x.value)).finalization_name x.value) (λ x. (goal.FinalizationProperty-dyn g (x.vtable, x.value)).finalization_complaint x.value) (λ x. (goal.Property-dyn g (x.vtable, x.value)).property_name x.value) (λ x. (goal.Property-dyn g (x.vtable, x.value)).property_complaint x.value) (λ x. (goal.ExitCondition-dyn g (x.vtable, x.value)).exit_name x.value) (λ x. (goal.ExitCondition-dyn g (x.vtable, x.value)).exit_verdict x.value) c.args.self.plan.now.finalization_property c.args.self.plan.now.property c.args.self.plan.now.exit_condition c.args.self.plan.now.participants c.args.self.plan.now.crashes (Beholds (g.D.EngineDefinition.peer_of c.args.self.plan.now.engine) (g.D.EngineDefinition.journal c.args.self.plan.now.engine) (g.D.EngineDefinition.reports c.args.self.plan.now.engine) g.D.State.ProcessedHeight.height_of g.D.State.ProcessedHeight.bytes_of c.new-agenda.result c.args.self.world) (λ m v. ⊥) (Beholds (g.D.EngineDefinition.peer_of c.args.self.plan.now.engine) (g.D.EngineDefinition.journal c.args.self.plan.now.engine) (g.D.EngineDefinition.reports c.args.self.plan.now.engine) g.D.State.ProcessedHeight.height_of g.D.State.ProcessedHeight.bytes_of (empty_agenda c.args.self.queue.next) c.args.self.world) (Ends (g.D.EngineDefinition.peer_of c.args.self.plan.now.engine) (g.D.EngineDefinition.journal c.args.self.plan.now.engine) (g.D.EngineDefinition.reports c.args.self.plan.now.engine) (λ x. (goal.ExitCondition-dyn g (x.vtable, x.value)).exit_verdict x.value) c.args.self.plan.now.exit_condition c.args.self.plan.now.required_finalizations c.args.self.plan.now.participants c.args.self.plan.now.crashes c.args.self.queue c.args.self.watch c.args.self.world)
+    c.args.self.watch c.args.self.watch []
+    (λ m v beheld.
+    subst (λ a. Beholds (g.D.EngineDefinition.peer_of c.args.self.plan.now.engine) (g.D.EngineDefinition.journal c.args.self.plan.now.engine) (g.D.EngineDefinition.reports c.args.self.plan.now.engine) g.D.State.ProcessedHeight.height_of g.D.State.ProcessedHeight.bytes_of a c.args.self.world m v)
     (agenda_begun c.args.self.queue c.take.new.self c.in-Some.entry c.new-agenda.result c.in-Some.ensures.taken (c.new-agenda.ensures ∙ ap empty_agenda c.next.ensures)) beheld)
-    c.args.self.watch c.args.self.watch [] (sym (append-nil c.args.self.watch)) c.in-Err.stop c.in-Err.ensures.answered)
+    (λ m v never. absurd never) (sym (append-nil c.args.self.watch)) c.in-Err.stop c.in-Err.ensures.answered)
