@@ -18,6 +18,7 @@ use crate::slot::Slot;
 use crate::totals::Totals;
 use crate::transfer::{Transfer, touches_of};
 use indexmap::IndexMap;
+use indexmap::map::Entry;
 use ledger_strategy::Strategy;
 use std::alloc::Global;
 use std::hash::Hash;
@@ -51,17 +52,18 @@ fn add_touch<K: Copy + Eq + Hash, E: Copy>(
 ) -> Result<(), PlanFault<K>>
     ensures ok { OnOk result (Updates K.eq table.old table.new key (Some (with_change (unwrap_or (get K.eq table.old key) no_total) change))) }
     ensures fits { OnOk result (FitsWith (unwrap_or (get K.eq table.old key) no_total) change) }
-    ensures unique { IsUnique K.eq table.new }
+    ensures unique { OnOk result (IsUnique K.eq table.new) }
     ensures fails { IfErr result (AddFails (unwrap_or (get K.eq table.old key) no_total) key change) }
 {
-    if let Some(total) = table.get_mut(&key) {
-        return total.add(key, change);
-    }
-    let mut total = Totals::new(alloc);
-    total.add(key, change)?;
-    match table.insert(key, total) {
-        Ok(_) => Ok(()),
+    match table.entry(key) {
         Err(_) => Err(PlanFault::OutOfMemory),
+        Ok(Entry::Occupied(mut entry)) => entry.get_mut().add(key, change),
+        Ok(Entry::Vacant(entry)) => {
+            let mut total = Totals::new(alloc);
+            total.add(key, change)?;
+            entry.insert(total);
+            Ok(())
+        }
     }
 }
 
@@ -75,7 +77,10 @@ pub(crate) fn gather<K: Copy + Eq + Hash, E: Copy>(
     ensures within { OnOk result (IsWithinSums K.eq all.now) }
     ensures fails { IfErr result (GatherFails K.eq all.now) }
 {
-    let mut table = IndexMap::with_hasher(alloc, Seeded::new(seed));
+    let Ok(mut table) = IndexMap::with_capacity_and_hasher(alloc, all.len(), Seeded::new(seed))
+    else {
+        return Err(PlanFault::OutOfMemory);
+    };
     for (key, change) in all {
         add_touch(alloc, &mut table, *key, *change)?;
     }
