@@ -12,9 +12,9 @@ use Rattle.simulate_parts.specs.declared.peer.Peer.{Peer}
 use Rattle.simulate_parts.specs.declared.schedule.Crash.{Crash}
 use Rattle.simulate_parts.specs.declared.tracker.FinalizationUpdate.{FinalizationUpdate}
 use Rattle.simulate_parts.specs.declared.tracker.ObserveFault.{ObserveFault}
-use Rattle.ledger_simulate.specs.Answering.{Answered, Ends, EndsAt, Fails, IsComplaint, IsFailure, IsObjection, Objects, Sees, StopAnswered}
+use Rattle.ledger_simulate.specs.Answering.{Answered, Beholds, Ends, EndsAt, Fails, IsComplaint, IsFailure, IsObjection, Objects, Sees, StopAnswered}
 use Rattle.ledger_simulate.specs.Causes.{Skips}
-use Rattle.ledger_simulate.specs.Handling.{Disturbs, Handles}
+use Rattle.ledger_simulate.specs.Handling.{Disturbs, Handles, told_by, told_first}
 use Rattle.ledger_simulate.specs.Plans.{target_count}
 use Rattle.ledger_simulate.specs.Queue.{AgendaView, QueueView, empty_agenda}
 use Rattle.ledger_simulate.specs.Reaching.{IsReached}
@@ -127,6 +127,12 @@ module _ {D E S : Type 0} (peer_of : E → Peer) (height : S → ℕ) (shown : S
         are = sees.are;
       }
 
+-- a moment of a step that handles the event that was taken off
+pub beholds_begun : {D E S : Type 0} (peer_of : E → Peer) (journal : Option (E → List (StepEvent × StepOut))) (reports : Option (FinalizationUpdate → Bool)) (height : S → ℕ) (shown : S → List ℕ) (before rest : QueueView) (entry : (ℕ × ℕ) × Event) (start : AgendaView) (u : World D E S) (more : List FinalizationUpdate) (states : List StateView) → before ≡ record rest { entries = entry ∷ rest.entries } → start ≡ empty_agenda rest.next → Beholds peer_of journal reports height shown (told_by entry.0 entry.1) start u more states → Beholds peer_of journal reports height shown (told_first before) (empty_agenda before.next) u more states
+beholds_begun peer_of journal reports height shown before rest entry start u more states taken nothing beheld =
+    subst (λ t. Beholds peer_of journal reports height shown t (empty_agenda before.next) u more states) (sym (ap told_first taken))
+    (subst (λ a. Beholds peer_of journal reports height shown (told_by entry.0 entry.1) a u more states) (agenda_begun before rest entry start taken nothing) beheld)
+
 -- what is left of a list, one element on
 pub left_more : (done left rest all : List FinalizationUpdate) (update : FinalizationUpdate) → done ++ left ≡ all → left ≡ update ∷ rest → (done ++ update ∷ []) ++ rest ≡ all
 left_more done left rest all update whole first = append_assoc done (update ∷ []) rest ∙ ap (λ us. done ++ us) (sym first) ∙ whole
@@ -149,79 +155,84 @@ ends_of peer_of journal reports verdict condition required participants crashes 
       are = over.are;
     }
 
-module _ {F P C : Type 0} (fname : F → List ℕ) (fsays : F → List StateView → Option (List ℕ)) (pname : P → List ℕ) (psays : P → TrackerView → List StateView → Option (List ℕ)) (cname : C → List ℕ) (csays : C → TrackerView → List StateView → ℕ → Result Bool (List ℕ)) (checks : List F) (properties : List P) (condition : Option C) (participants : List Peer) (crashes : List Crash) (seen ended : List FinalizationUpdate → List StateView → Type 0) where
+module _ {F P C : Type 0} (fname : F → List ℕ) (fsays : F → List StateView → Option (List ℕ)) (pname : P → List ℕ) (psays : P → TrackerView → List StateView → Option (List ℕ)) (cname : C → List ℕ) (csays : C → TrackerView → List StateView → ℕ → Result Bool (List ℕ)) (checks : List F) (properties : List P) (condition : Option C) (seen : List FinalizationUpdate → List StateView → Type 0) (asked : List FinalizationUpdate → List StateView → ℕ → Type 0) (ended : List FinalizationUpdate → List StateView → Type 0) where
   -- want of memory
-  pub answered_short : (before : List FinalizationUpdate) (s : Stop) → s ≡ OutOfMemory → StopAnswered fname fsays pname psays cname csays checks properties condition participants crashes seen ended before s
-  answered_short before s is = subst (StopAnswered fname fsays pname psays cname csays checks properties condition participants crashes seen ended before) (sym is) tt
+  pub answered_short : (before : List FinalizationUpdate) (s : Stop) → s ≡ OutOfMemory → StopAnswered fname fsays pname psays cname csays checks properties condition seen asked ended before s
+  answered_short before s is = subst (StopAnswered fname fsays pname psays cname csays checks properties condition seen asked ended before) (sym is) tt
 
   -- a check at a report
-  pub answered_complains : (before more : List FinalizationUpdate) (states : List StateView) (s : Stop) → seen more states → IsComplaint fname fsays checks states s → StopAnswered fname fsays pname psays cname csays checks properties condition participants crashes seen ended before s
+  pub answered_complains : (before more : List FinalizationUpdate) (states : List StateView) (s : Stop) → seen more states → IsComplaint fname fsays checks states s → StopAnswered fname fsays pname psays cname csays checks properties condition seen asked ended before s
   answered_complains before more states s saw (inl is) = answered_short before s is
   answered_complains before more states s saw (inr found) =
-      subst (StopAnswered fname fsays pname psays cname csays checks properties condition participants crashes seen ended before) (sym found.2) (more, states, saw, found.3)
+      subst (StopAnswered fname fsays pname psays cname csays checks properties condition seen asked ended before) (sym found.2) (more, states, saw, found.3)
 
   -- the exit condition
-  pub answered_fails : (before : List FinalizationUpdate) (states : List StateView) (started : Bool) (s : Stop) → seen [] states → IsFailure cname csays condition (tracker_of before) states (target_count participants crashes started) s → StopAnswered fname fsays pname psays cname csays checks properties condition participants crashes seen ended before s
-  answered_fails before states started s saw (inl is) = answered_short before s is
-  answered_fails before states started s saw (inr found) =
+  pub answered_fails : (before : List FinalizationUpdate) (states : List StateView) (target : ℕ) (s : Stop) → asked [] states target → IsFailure cname csays condition (tracker_of before) states target s → StopAnswered fname fsays pname psays cname csays checks properties condition seen asked ended before s
+  answered_fails before states target s saw (inl is) = answered_short before s is
+  answered_fails before states target s saw (inr found) =
       let none : before ≡ before ++ [] = sym (append-nil before) in
-      let fails : Fails cname csays condition (tracker_of (before ++ [])) states (target_count participants crashes started) found.0 found.1 =
-      subst (λ us. Fails cname csays condition (tracker_of us) states (target_count participants crashes started) found.0 found.1) none found.3 in
-      subst (StopAnswered fname fsays pname psays cname csays checks properties condition participants crashes seen ended before) (sym found.2) ([], states, saw, started, fails)
+      let fails : Fails cname csays condition (tracker_of (before ++ [])) states target found.0 found.1 =
+      subst (λ us. Fails cname csays condition (tracker_of us) states target found.0 found.1) none found.3 in
+      subst (StopAnswered fname fsays pname psays cname csays checks properties condition seen asked ended before) (sym found.2) ([], states, target, saw, fails)
 
   -- a property of the end
-  pub answered_objects : (before : List FinalizationUpdate) (states : List StateView) (s : Stop) (f : PlanFault) → ended [] states → s ≡ Fault f → IsObjection pname psays properties (tracker_of before) states s → Answered fname fsays pname psays cname csays checks properties condition participants crashes seen ended before f
+  pub answered_objects : (before : List FinalizationUpdate) (states : List StateView) (s : Stop) (f : PlanFault) → ended [] states → s ≡ Fault f → IsObjection pname psays properties (tracker_of before) states s → Answered fname fsays pname psays cname csays checks properties condition seen asked ended before f
   answered_objects before states s f over is objects =
-      subst (StopAnswered fname fsays pname psays cname csays checks properties condition participants crashes seen ended before) is (by_stop s objects)
+      subst (StopAnswered fname fsays pname psays cname csays checks properties condition seen asked ended before) is (by_stop s objects)
     where
-      by_stop : (s : Stop) → IsObjection pname psays properties (tracker_of before) states s → StopAnswered fname fsays pname psays cname csays checks properties condition participants crashes seen ended before s
+      by_stop : (s : Stop) → IsObjection pname psays properties (tracker_of before) states s → StopAnswered fname fsays pname psays cname csays checks properties condition seen asked ended before s
       by_stop s (inl is) = answered_short before s is
       by_stop s (inr found) =
-          subst (StopAnswered fname fsays pname psays cname csays checks properties condition participants crashes seen ended before) (sym found.2)
+          subst (StopAnswered fname fsays pname psays cname csays checks properties condition seen asked ended before) (sym found.2)
           ([], states, over, subst (λ us. Objects pname psays properties (tracker_of us) states found.0 found.1) (sym (append-nil before)) found.3)
 
   -- a refused report
-  pub answered_forks : (before : List FinalizationUpdate) (update : FinalizationUpdate) (s : Stop) → IsForkOf before update s → StopAnswered fname fsays pname psays cname csays checks properties condition participants crashes seen ended before s
+  pub answered_forks : (before : List FinalizationUpdate) (update : FinalizationUpdate) (s : Stop) → IsForkOf before update s → StopAnswered fname fsays pname psays cname csays checks properties condition seen asked ended before s
   answered_forks before update s forks = by_fault (observe_fault (tracker_of before) update) forks
     where
-      by_fault : (o : Option ObserveFault) → MatchOption o (s ≡ OutOfMemory) (λ fault. (s ≡ OutOfMemory) ⊎ (s ≡ Fault (Fork update fault))) → StopAnswered fname fsays pname psays cname csays checks properties condition participants crashes seen ended before s
+      by_fault : (o : Option ObserveFault) → MatchOption o (s ≡ OutOfMemory) (λ fault. (s ≡ OutOfMemory) ⊎ (s ≡ Fault (Fork update fault))) → StopAnswered fname fsays pname psays cname csays checks properties condition seen asked ended before s
       by_fault None short = answered_short before s short
       by_fault (Some fault) (inl short) = answered_short before s short
-      by_fault (Some fault) (inr fork) = subst (StopAnswered fname fsays pname psays cname csays checks properties condition participants crashes seen ended before) (sym fork) tt
+      by_fault (Some fault) (inr fork) = subst (StopAnswered fname fsays pname psays cname csays checks properties condition seen asked ended before) (sym fork) tt
 
   -- a window that was skipped
-  pub answered_skips : (before : List FinalizationUpdate) (s : Stop) → (s ≡ OutOfMemory) ⊎ ((height : ℕ) × (s ≡ Fault (SkippedWindow height)) × Skips crashes height) → StopAnswered fname fsays pname psays cname csays checks properties condition participants crashes seen ended before s
-  answered_skips before s (inl is) = answered_short before s is
-  answered_skips before s (inr skips) = subst (StopAnswered fname fsays pname psays cname csays checks properties condition participants crashes seen ended before) (sym skips.1) tt
+  pub answered_skips : (crashes : List Crash) (before : List FinalizationUpdate) (s : Stop) → (s ≡ OutOfMemory) ⊎ ((height : ℕ) × (s ≡ Fault (SkippedWindow height)) × Skips crashes height) → StopAnswered fname fsays pname psays cname csays checks properties condition seen asked ended before s
+  answered_skips crashes before s (inl is) = answered_short before s is
+  answered_skips crashes before s (inr skips) = subst (StopAnswered fname fsays pname psays cname csays checks properties condition seen asked ended before) (sym skips.1) tt
 
   -- from an earlier time on
-  pub answered_since : (wider wider_end : List FinalizationUpdate → List StateView → Type 0) (before now done : List FinalizationUpdate) → ((m : List FinalizationUpdate) (v : List StateView) → seen m v → wider (done ++ m) v) → ((m : List FinalizationUpdate) (v : List StateView) → ended m v → wider_end (done ++ m) v) → now ≡ before ++ done → (f : PlanFault) → Answered fname fsays pname psays cname csays checks properties condition participants crashes seen ended now f → Answered fname fsays pname psays cname csays checks properties condition participants crashes wider wider_end before f
-  answered_since wider wider_end before now done widens ends since (FinalizationProperty name text) said = (done ++ said.0, said.1, widens said.0 said.1 said.2, said.3)
-  answered_since wider wider_end before now done widens ends since (Property name text) said = (
+  pub answered_since : (wider : List FinalizationUpdate → List StateView → Type 0) (wider_ask : List FinalizationUpdate → List StateView → ℕ → Type 0) (wider_end : List FinalizationUpdate → List StateView → Type 0) (before now done : List FinalizationUpdate) → ((m : List FinalizationUpdate) (v : List StateView) → seen m v → wider (done ++ m) v) → ((m : List FinalizationUpdate) (v : List StateView) (n : ℕ) → asked m v n → wider_ask (done ++ m) v n) → ((m : List FinalizationUpdate) (v : List StateView) → ended m v → wider_end (done ++ m) v) → now ≡ before ++ done → (f : PlanFault) → Answered fname fsays pname psays cname csays checks properties condition seen asked ended now f → Answered fname fsays pname psays cname csays checks properties condition wider wider_ask wider_end before f
+  answered_since wider wider_ask wider_end before now done widens asks ends since (FinalizationProperty name text) said = (done ++ said.0, said.1, widens said.0 said.1 said.2, said.3)
+  answered_since wider wider_ask wider_end before now done widens asks ends since (Property name text) said = (
     done ++ said.0,
     said.1,
     ends said.0 said.1 said.2,
     subst (λ us. Objects pname psays properties (tracker_of us) said.1 name text) (ap (λ us. us ++ said.0) since ∙ append_assoc before done said.0) said.3,
   )
-  answered_since wider wider_end before now done widens ends since (Exit name text) said = (
+  answered_since wider wider_ask wider_end before now done widens asks ends since (Exit name text) said = (
     done ++ said.0,
     said.1,
-    widens said.0 said.1 said.2,
-    said.3,
-    subst (λ us. Fails cname csays condition (tracker_of us) said.1 (target_count participants crashes said.3) name text) (ap (λ us. us ++ said.0) since ∙ append_assoc before done said.0) said.4,
+    said.2,
+    asks said.0 said.1 said.2 said.3,
+    subst (λ us. Fails cname csays condition (tracker_of us) said.1 said.2 name text) (ap (λ us. us ++ said.0) since ∙ append_assoc before done said.0) said.4,
   )
-  answered_since wider wider_end before now done widens ends since (Fork update fault) said = tt
-  answered_since wider wider_end before now done widens ends since Timeout said = tt
-  answered_since wider wider_end before now done widens ends since EventLimit said = tt
-  answered_since wider wider_end before now done widens ends since Idle said = tt
-  answered_since wider wider_end before now done widens ends since (SkippedWindow height) said = tt
-  answered_since wider wider_end before now done widens ends since (NotExercised index) said = tt
+  answered_since wider wider_ask wider_end before now done widens asks ends since (Fork update fault) said = tt
+  answered_since wider wider_ask wider_end before now done widens asks ends since Timeout said = tt
+  answered_since wider wider_ask wider_end before now done widens asks ends since EventLimit said = tt
+  answered_since wider wider_ask wider_end before now done widens asks ends since Idle said = tt
+  answered_since wider wider_ask wider_end before now done widens asks ends since (SkippedWindow height) said = tt
+  answered_since wider wider_ask wider_end before now done widens asks ends since (NotExercised index) said = tt
 
-  pub stop_answered_since : (wider wider_end : List FinalizationUpdate → List StateView → Type 0) (before now done : List FinalizationUpdate) → ((m : List FinalizationUpdate) (v : List StateView) → seen m v → wider (done ++ m) v) → ((m : List FinalizationUpdate) (v : List StateView) → ended m v → wider_end (done ++ m) v) → now ≡ before ++ done → (s : Stop) → StopAnswered fname fsays pname psays cname csays checks properties condition participants crashes seen ended now s → StopAnswered fname fsays pname psays cname csays checks properties condition participants crashes wider wider_end before s
-  stop_answered_since wider wider_end before now done widens ends since (Fault fault) said = answered_since wider wider_end before now done widens ends since fault said
-  stop_answered_since wider wider_end before now done widens ends since OutOfMemory said = tt
+  pub stop_answered_since : (wider : List FinalizationUpdate → List StateView → Type 0) (wider_ask : List FinalizationUpdate → List StateView → ℕ → Type 0) (wider_end : List FinalizationUpdate → List StateView → Type 0) (before now done : List FinalizationUpdate) → ((m : List FinalizationUpdate) (v : List StateView) → seen m v → wider (done ++ m) v) → ((m : List FinalizationUpdate) (v : List StateView) (n : ℕ) → asked m v n → wider_ask (done ++ m) v n) → ((m : List FinalizationUpdate) (v : List StateView) → ended m v → wider_end (done ++ m) v) → now ≡ before ++ done → (s : Stop) → StopAnswered fname fsays pname psays cname csays checks properties condition seen asked ended now s → StopAnswered fname fsays pname psays cname csays checks properties condition wider wider_ask wider_end before s
+  stop_answered_since wider wider_ask wider_end before now done widens asks ends since (Fault fault) said = answered_since wider wider_ask wider_end before now done widens asks ends since fault said
+  stop_answered_since wider wider_ask wider_end before now done widens asks ends since OutOfMemory said = tt
 
   -- a refusal by the exit condition alone
-  pub if_answered_fails : {A : Type 0} (before : List FinalizationUpdate) (states : List StateView) (started : Bool) (r : Result A Stop) → seen [] states → IfErr r (IsFailure cname csays condition (tracker_of before) states (target_count participants crashes started)) → IfErr r (StopAnswered fname fsays pname psays cname csays checks properties condition participants crashes seen ended before)
-  if_answered_fails before states started (Ok a) saw fact = tt
-  if_answered_fails before states started (Err s) saw fact = answered_fails before states started s saw fact
+  pub if_answered_fails : {A : Type 0} (before : List FinalizationUpdate) (states : List StateView) (target : ℕ) (r : Result A Stop) → asked [] states target → IfErr r (IsFailure cname csays condition (tracker_of before) states target) → IfErr r (StopAnswered fname fsays pname psays cname csays checks properties condition seen asked ended before)
+  if_answered_fails before states target (Ok a) saw fact = tt
+  if_answered_fails before states target (Err s) saw fact = answered_fails before states target s saw fact
+
+  -- the same of wider moments
+  pub if_answered_wider : {A : Type 0} (wider : List FinalizationUpdate → List StateView → Type 0) (wider_ask : List FinalizationUpdate → List StateView → ℕ → Type 0) (wider_end : List FinalizationUpdate → List StateView → Type 0) (before : List FinalizationUpdate) (r : Result A Stop) → ((m : List FinalizationUpdate) (v : List StateView) → seen m v → wider m v) → ((m : List FinalizationUpdate) (v : List StateView) (n : ℕ) → asked m v n → wider_ask m v n) → ((m : List FinalizationUpdate) (v : List StateView) → ended m v → wider_end m v) → IfErr r (StopAnswered fname fsays pname psays cname csays checks properties condition seen asked ended before) → IfErr r (StopAnswered fname fsays pname psays cname csays checks properties condition wider wider_ask wider_end before)
+  if_answered_wider wider wider_ask wider_end before (Ok a) widens asks ends said = tt
+  if_answered_wider wider wider_ask wider_end before (Err s) widens asks ends said = stop_answered_since wider wider_ask wider_end before before [] widens asks ends (sym (append-nil before)) s said

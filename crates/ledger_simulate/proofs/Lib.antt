@@ -1,6 +1,7 @@
 pub mod Answering
 pub mod Beginning
 pub mod Causing
+pub mod Delaying
 pub mod Each
 pub mod Ends
 pub mod Engines

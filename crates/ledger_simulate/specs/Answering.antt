@@ -10,7 +10,8 @@ use Rattle.simulate_parts.specs.declared.engine.StepOut.{StepOut}
 use Rattle.simulate_parts.specs.declared.peer.Peer.{Peer}
 use Rattle.simulate_parts.specs.declared.schedule.Crash.{Crash}
 use Rattle.simulate_parts.specs.declared.tracker.FinalizationUpdate.{FinalizationUpdate}
-use Rattle.ledger_simulate.specs.Handling.{Disturbs, Gives, Handles}
+use Rattle.ledger_simulate.specs.Delays.{target_at}
+use Rattle.ledger_simulate.specs.Handling.{Disturbs, Gives, Handles, birth_at}
 use Rattle.ledger_simulate.specs.Plans.{target_count}
 use Rattle.ledger_simulate.specs.Queue.{AgendaView, QueueView, empty_agenda}
 use Rattle.ledger_simulate.specs.Reaching.{IsReached}
@@ -31,21 +32,31 @@ pub record Sees {D E S : Type 0} (peer_of : E → Peer) (height : S → ℕ) (sh
   pub disturbs : Disturbs peer_of a made u world
   pub are : states ≡ active_views height shown world.seats.entries
 
--- the states of the engines that run, after one engine took one step and a first part of its reports
-pub record SeesAfter {D E S : Type 0} (peer_of : E → Peer) (journal : Option (E → List (StepEvent × StepOut))) (reports : Option (FinalizationUpdate → Bool)) (height : S → ℕ) (shown : S → List ℕ) (a : AgendaView) (u : World D E S) (more : List FinalizationUpdate) (states : List StateView) : Type 0 where
+-- the states of the engines that run, after the engine that was to be told this took one step, and after a
+-- first part of its reports
+pub record SeesAfter {D E S : Type 0} (peer_of : E → Peer) (journal : Option (E → List (StepEvent × StepOut))) (reports : Option (FinalizationUpdate → Bool)) (height : S → ℕ) (shown : S → List ℕ) (told : Option (Peer × Option ℕ × StepEvent)) (a : AgendaView) (u : World D E S) (more : List FinalizationUpdate) (states : List StateView) : Type 0 where
   pub pk : Peer
-  pub birth : ℕ
+  pub given_birth : Option ℕ
   pub event : StepEvent
+  pub tells : told ≡ Some (pk, given_birth, event)
+  pub birth : ℕ
+  pub runs : birth_at u.seats.entries pk given_birth ≡ Some birth
   pub out : StepOut
   pub given : AgendaView
   pub mid : World D E S
   pub gives : Gives peer_of journal reports pk birth event out a given u mid
   pub sees : Sees peer_of height shown given mid (updates_of pk out.finalized) more states
 
--- the reports and the states of a moment of a step: before it, or after an engine took its step
-abbrev pub Beholds : {D E S : Type 0} → (E → Peer) → Option (E → List (StepEvent × StepOut)) → Option (FinalizationUpdate → Bool) → (S → ℕ) → (S → List ℕ) → AgendaView → World D E S → List FinalizationUpdate → List StateView → Type 0
-Beholds peer_of journal reports height shown a u more states =
-    ((more ≡ []) × (states ≡ active_views height shown u.seats.entries)) ⊎ SeesAfter peer_of journal reports height shown a u more states
+-- the reports and the states of a moment of a step that handles an event which tells an engine this, if it is
+-- for one: before the step, or after that engine took its step
+abbrev pub Beholds : {D E S : Type 0} → (E → Peer) → Option (E → List (StepEvent × StepOut)) → Option (FinalizationUpdate → Bool) → (S → ℕ) → (S → List ℕ) → Option (Peer × Option ℕ × StepEvent) → AgendaView → World D E S → List FinalizationUpdate → List StateView → Type 0
+Beholds peer_of journal reports height shown told a u more states =
+    ((more ≡ []) × (states ≡ active_views height shown u.seats.entries)) ⊎ SeesAfter peer_of journal reports height shown told a u more states
+
+-- such a moment, and how many participants count for the exit condition then
+abbrev pub Asks : {D E S : Type 0} → (E → Peer) → Option (E → List (StepEvent × StepOut)) → Option (FinalizationUpdate → Bool) → (S → ℕ) → (S → List ℕ) → Option (Peer × Option ℕ × StepEvent) → List Peer → List Crash → List FinalizationUpdate → AgendaView → World D E S → List FinalizationUpdate → List StateView → ℕ → Type 0
+Asks peer_of journal reports height shown told participants crashes before a u more states target =
+    Beholds peer_of journal reports height shown told a u more states × (target ≡ target_at participants crashes before u.exercise.delayed_started more)
 
 -- no report more, and the exit condition answered true on these states, after a first part of these reports
 pub record EndsAt {C : Type 0} (verdict : C → TrackerView → List StateView → ℕ → Result Bool (List ℕ)) (condition : Option C) (required target : ℕ) (updates more : List FinalizationUpdate) (states : List StateView) : Type 0 where
@@ -102,24 +113,24 @@ abbrev pub IsFailure : {C : Type 0} → (C → List ℕ) → (C → TrackerView 
 IsFailure called verdict condition tracker states target stop =
     (stop ≡ OutOfMemory) ⊎ ((name : List ℕ) × (text : List ℕ) × (stop ≡ Fault (Exit name text)) × Fails called verdict condition tracker states target name text)
 
--- where a check's fault ends a run, that check answers so: a check at a report and the exit condition at a
--- moment that was seen, a property at the end
-abbrev pub Answered : {F P C : Type 0} → (F → List ℕ) → (F → List StateView → Option (List ℕ)) → (P → List ℕ) → (P → TrackerView → List StateView → Option (List ℕ)) → (C → List ℕ) → (C → TrackerView → List StateView → ℕ → Result Bool (List ℕ)) → List F → List P → Option C → List Peer → List Crash → (List FinalizationUpdate → List StateView → Type 0) → (List FinalizationUpdate → List StateView → Type 0) → List FinalizationUpdate → PlanFault → Type 0
-Answered fname fsays pname psays cname csays checks properties condition participants crashes seen ended before (FinalizationProperty name text) =
+-- where a check's fault ends a run, that check answers so: a check at a report at a moment that was seen, the
+-- exit condition where it was asked, a property at the end
+abbrev pub Answered : {F P C : Type 0} → (F → List ℕ) → (F → List StateView → Option (List ℕ)) → (P → List ℕ) → (P → TrackerView → List StateView → Option (List ℕ)) → (C → List ℕ) → (C → TrackerView → List StateView → ℕ → Result Bool (List ℕ)) → List F → List P → Option C → (List FinalizationUpdate → List StateView → Type 0) → (List FinalizationUpdate → List StateView → ℕ → Type 0) → (List FinalizationUpdate → List StateView → Type 0) → List FinalizationUpdate → PlanFault → Type 0
+Answered fname fsays pname psays cname csays checks properties condition seen asked ended before (FinalizationProperty name text) =
     (more : List FinalizationUpdate) × (states : List StateView) × seen more states × Complains fname fsays checks states name text
-Answered fname fsays pname psays cname csays checks properties condition participants crashes seen ended before (Property name text) =
+Answered fname fsays pname psays cname csays checks properties condition seen asked ended before (Property name text) =
     (more : List FinalizationUpdate) × (states : List StateView) × ended more states × Objects pname psays properties (tracker_of (before ++ more)) states name text
-Answered fname fsays pname psays cname csays checks properties condition participants crashes seen ended before (Exit name text) =
-    (more : List FinalizationUpdate) × (states : List StateView) × seen more states × (started : Bool) × Fails cname csays condition (tracker_of (before ++ more)) states (target_count participants crashes started) name text
-Answered fname fsays pname psays cname csays checks properties condition participants crashes seen ended before (Fork update fault) = Unit {0}
-Answered fname fsays pname psays cname csays checks properties condition participants crashes seen ended before Timeout = Unit {0}
-Answered fname fsays pname psays cname csays checks properties condition participants crashes seen ended before EventLimit = Unit {0}
-Answered fname fsays pname psays cname csays checks properties condition participants crashes seen ended before Idle = Unit {0}
-Answered fname fsays pname psays cname csays checks properties condition participants crashes seen ended before (SkippedWindow height) = Unit {0}
-Answered fname fsays pname psays cname csays checks properties condition participants crashes seen ended before (NotExercised index) = Unit {0}
+Answered fname fsays pname psays cname csays checks properties condition seen asked ended before (Exit name text) =
+    (more : List FinalizationUpdate) × (states : List StateView) × (target : ℕ) × asked more states target × Fails cname csays condition (tracker_of (before ++ more)) states target name text
+Answered fname fsays pname psays cname csays checks properties condition seen asked ended before (Fork update fault) = Unit {0}
+Answered fname fsays pname psays cname csays checks properties condition seen asked ended before Timeout = Unit {0}
+Answered fname fsays pname psays cname csays checks properties condition seen asked ended before EventLimit = Unit {0}
+Answered fname fsays pname psays cname csays checks properties condition seen asked ended before Idle = Unit {0}
+Answered fname fsays pname psays cname csays checks properties condition seen asked ended before (SkippedWindow height) = Unit {0}
+Answered fname fsays pname psays cname csays checks properties condition seen asked ended before (NotExercised index) = Unit {0}
 
 -- the same of a stop
-abbrev pub StopAnswered : {F P C : Type 0} → (F → List ℕ) → (F → List StateView → Option (List ℕ)) → (P → List ℕ) → (P → TrackerView → List StateView → Option (List ℕ)) → (C → List ℕ) → (C → TrackerView → List StateView → ℕ → Result Bool (List ℕ)) → List F → List P → Option C → List Peer → List Crash → (List FinalizationUpdate → List StateView → Type 0) → (List FinalizationUpdate → List StateView → Type 0) → List FinalizationUpdate → Stop → Type 0
-StopAnswered fname fsays pname psays cname csays checks properties condition participants crashes seen ended before (Fault fault) =
-    Answered fname fsays pname psays cname csays checks properties condition participants crashes seen ended before fault
-StopAnswered fname fsays pname psays cname csays checks properties condition participants crashes seen ended before OutOfMemory = Unit {0}
+abbrev pub StopAnswered : {F P C : Type 0} → (F → List ℕ) → (F → List StateView → Option (List ℕ)) → (P → List ℕ) → (P → TrackerView → List StateView → Option (List ℕ)) → (C → List ℕ) → (C → TrackerView → List StateView → ℕ → Result Bool (List ℕ)) → List F → List P → Option C → (List FinalizationUpdate → List StateView → Type 0) → (List FinalizationUpdate → List StateView → ℕ → Type 0) → (List FinalizationUpdate → List StateView → Type 0) → List FinalizationUpdate → Stop → Type 0
+StopAnswered fname fsays pname psays cname csays checks properties condition seen asked ended before (Fault fault) =
+    Answered fname fsays pname psays cname csays checks properties condition seen asked ended before fault
+StopAnswered fname fsays pname psays cname csays checks properties condition seen asked ended before OutOfMemory = Unit {0}

@@ -1,5 +1,5 @@
 -- Handling an event: what an engine is told and gives, and what the failures do to the others.
-use Rattle.std.specs.Prelude.{◌≡◌, ◌<◌, ◌+◌, ℕ, Bool, true, false, IsTrue, List, ◌++◌, Option, Some, None, MatchOption, All, length, option_map, if◌then◌else◌}
+use Rattle.std.specs.Prelude.{◌≡◌, ◌<◌, ◌+◌, ℕ, Bool, true, false, IsTrue, List, ◌++◌, Option, Some, None, MatchOption, All, length, option_map, option_and_then, slice_get, if◌then◌else◌}
 use Rattle.rand_pcg.specs.Lcg.{Lcg}
 use Rattle.simulate_parts.specs.Engine.{Passes, updates_of}
 use Rattle.simulate_parts.specs.Seats.{Steps, running_at, runs, runs_since}
@@ -12,7 +12,7 @@ use Rattle.simulate_parts.specs.declared.seats.Seat.{Seat}
 use Rattle.simulate_parts.specs.declared.tracker.FinalizationUpdate.{FinalizationUpdate}
 use Rattle.ledger_simulate.specs.Links.{link_of}
 use Rattle.ledger_simulate.specs.Messages.{delivered, lets_through, timers_of}
-use Rattle.ledger_simulate.specs.Queue.{AgendaView}
+use Rattle.ledger_simulate.specs.Queue.{AgendaView, QueueView}
 use Rattle.ledger_simulate.specs.declared.event.Event.{Event}
 use Rattle.ledger_simulate.specs.declared.event.Event.TheVariants.{Started, Timer, Received, Act, CrashTick, ExitPoll, Recover}
 use Rattle.ledger_simulate.specs.declared.world.World.{World}
@@ -74,6 +74,7 @@ pub record Gives {D E S : Type 0} (peer_of : E → Peer) (journal : Option (E �
   pub words : v.words ≡ (carried u v.seats.entries pk out.messages).1
   pub links : v.links ≡ u.links
   pub rules : v.rules ≡ u.rules
+  pub exercise : v.exercise ≡ u.exercise
 
 -- the number under which a peer's engine was started, where it runs and was started under this number, if
 -- one is given
@@ -103,15 +104,25 @@ Tells peer_of journal reports pk birth event a b us vs u v =
 abbrev pub Surrounds : {D E S : Type 0} → (E → Peer) → AgendaView → AgendaView → List FinalizationUpdate → List FinalizationUpdate → World D E S → World D E S → Type 0
 Surrounds peer_of a b us vs u v = (vs ≡ us) × Stirs peer_of a b u v
 
+-- what an event of this time and number tells an engine: the engine's peer, its birth where one is given,
+-- and what it is told
+abbrev pub told_by : ℕ × ℕ → Event → Option (Peer × Option ℕ × StepEvent)
+told_by key (Started pk) = Some (pk, Some key.1, told_start)
+told_by key (Timer pk birth) = Some (pk, Some birth, told_timer key.0)
+told_by key (Received from to channel bytes) = Some (to, None, told_message from channel bytes)
+told_by key (Act action) = None
+told_by key CrashTick = None
+told_by key ExitPoll = None
+told_by key (Recover pk) = None
+
+-- what the first event of a queue tells an engine
+abbrev pub told_first : QueueView → Option (Peer × Option ℕ × StepEvent)
+told_first q = option_and_then (λ e. told_by e.0 e.1) (slice_get q.entries 0)
+
 -- the event of this time and number was handled
 abbrev pub Handles : {D E S : Type 0} → (E → Peer) → Option (E → List (StepEvent × StepOut)) → Option (FinalizationUpdate → Bool) → ℕ × ℕ → Event → AgendaView → AgendaView → List FinalizationUpdate → List FinalizationUpdate → World D E S → World D E S → Type 0
-Handles peer_of journal reports key (Started pk) a b us vs u v = Tells peer_of journal reports pk (Some key.1) told_start a b us vs u v
-Handles peer_of journal reports key (Timer pk birth) a b us vs u v = Tells peer_of journal reports pk (Some birth) (told_timer key.0) a b us vs u v
-Handles peer_of journal reports key (Received from to channel bytes) a b us vs u v = Tells peer_of journal reports to None (told_message from channel bytes) a b us vs u v
-Handles peer_of journal reports key (Act action) a b us vs u v = Surrounds peer_of a b us vs u v
-Handles peer_of journal reports key CrashTick a b us vs u v = Surrounds peer_of a b us vs u v
-Handles peer_of journal reports key ExitPoll a b us vs u v = Surrounds peer_of a b us vs u v
-Handles peer_of journal reports key (Recover pk) a b us vs u v = Surrounds peer_of a b us vs u v
+Handles peer_of journal reports key event a b us vs u v =
+    MatchOption (told_by key event) (Surrounds peer_of a b us vs u v) (λ t. Tells peer_of journal reports t.0 t.1 t.2 a b us vs u v)
 
 -- a list has grown at its end by reports that pass the test, where one is told
 pub record Grows (reports : Option (FinalizationUpdate → Bool)) (before after : List FinalizationUpdate) : Type 0 where

@@ -1,5 +1,6 @@
 pub mod Answering
 pub mod Causes
+pub mod Delays
 pub mod Exercise
 pub mod Handling
 pub mod Links

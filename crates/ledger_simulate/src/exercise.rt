@@ -1,5 +1,5 @@
 //! Whether the configured failures came to anything.
-ghost use Rattle.std.specs.Prelude.{◌≡◌, IfOk, false, replicate, slice_get, unwrap_or};
+ghost use Rattle.std.specs.Prelude.{◌≡◌, ◌+◌, ◌-◌, ◌^◌, IfOk, false, min, replicate, slice_get, unwrap_or};
 ghost use Rattle.ledger_simulate.specs.Exercise.{is_unexercised, unexercised_from};
 
 use ledger_codec::OutOfMemory;
@@ -41,19 +41,25 @@ impl Exercise {
     }
 
     /// Marks the window of the configured failure at this place as entered.
-    pub fn enter(&mut self, index: usize) {
+    pub fn enter(&mut self, index: usize)
+        ensures started { self.new.delayed_started ≡ self.old.delayed_started }
+    {
         if index < self.entered.len() {
             self.entered[index] = true;
         }
     }
 
     /// Counts a crash that ran.
-    pub fn count_crash(&mut self) {
+    pub fn count_crash(&mut self)
+        ensures { self.new ≡ record self.old { crashes = min (self.old.crashes + 1) (2 ^ 64 - 1) } }
+    {
         self.crashes = self.crashes.saturating_add(1);
     }
 
     /// Counts a scheduled action that was applied.
-    pub fn count_action(&mut self) {
+    pub fn count_action(&mut self)
+        ensures { self.new ≡ record self.old { scheduled_actions = min (self.old.scheduled_actions + 1) (2 ^ 64 - 1) } }
+    {
         self.scheduled_actions = self.scheduled_actions.saturating_add(1);
     }
 

@@ -1,9 +1,12 @@
 //! The engines of a run and what surrounds them.
-ghost use Rattle.std.specs.Prelude.{◌≡◌, ◌⊎◌, ◌<◌, ◌++◌, ◌∷◌, [], ℕ, IfErr, IfOk, IsTrue, OnOk, filter, length, nat_lt, vec_len};
+ghost use Rattle.std.specs.Prelude.{◌≡◌, ◌⊎◌, ◌<◌, ◌++◌, ◌∷◌, ◌||◌, [], ℕ, IfErr, IfOk, IsTrue, OnOk, false, filter, length, nat_lt, option_map, unwrap_or, vec_len};
+ghost use Rattle.std.specs.List.{list_any};
 ghost use Rattle.rand_pcg.specs.Lcg.{Lcg};
 ghost use Rattle.simulate_parts.specs.Seats.{stopped};
 ghost use Rattle.simulate_parts.specs.Team.{names, place_of};
+ghost use Rattle.simulate_parts.specs.Tracker.{finalized_rounds};
 ghost use Rattle.ledger_simulate.specs.Causes.{Skips, is_passed};
+ghost use Rattle.ledger_simulate.specs.Delays.{delay_round, reaches, starts};
 ghost use Rattle.ledger_simulate.specs.Handling.{Disturbs, Stirs};
 ghost use Rattle.ledger_simulate.specs.Links.{changed_links, common_link};
 ghost use Rattle.ledger_simulate.specs.Plans.{named_late, target_count};
@@ -123,6 +126,7 @@ impl<D: EngineDefinition> World<D> {
         ensures words { self.new.words ≡ self.old.words }
         ensures links { self.new.links ≡ self.old.links }
         ensures rules { self.new.rules ≡ self.old.rules }
+        ensures started { self.new.exercise.delayed_started ≡ self.old.exercise.delayed_started }
     {
         let ran = stop_engine(&mut self.seats, pk);
         if ran {
@@ -133,7 +137,8 @@ impl<D: EngineDefinition> World<D> {
 
     /// Stops a peer for a downtime.
     fn crash_for(&mut self, agenda: &mut Agenda, pk: Peer, downtime: u64) -> Result<(), OutOfMemory>
-        ensures { OnOk result ((peer_of : _) → Disturbs peer_of agenda.old agenda.new self.old self.new) }
+        ensures disturbs { OnOk result ((peer_of : _) → Disturbs peer_of agenda.old agenda.new self.old self.new) }
+        ensures started { OnOk result (self.new.exercise.delayed_started ≡ self.old.exercise.delayed_started) }
     {
         if !self.crash(&pk) {
             return Ok(());
@@ -242,6 +247,7 @@ impl<D: EngineDefinition> World<D> {
     /// Crashes the participants whose heights have entered the windows in which they are to crash.
     pub fn enter_windows(&mut self, plan: &Plan<D>, agenda: &mut Agenda) -> Result<(), Stop>
         ensures disturbs { OnOk result (Disturbs (D.peer_of plan.now.engine) agenda.old agenda.new self.old self.new) }
+        ensures started { OnOk result (self.new.exercise.delayed_started ≡ self.old.exercise.delayed_started) }
         ensures skips { IfErr result (λ s. (s ≡ Stop.OutOfMemory) ⊎ ((height : ℕ) × (s ≡ Stop.Fault (PlanFault.SkippedWindow height)) × Skips plan.now.crashes height)) }
         ensures late { IfErr result (λ s. IsTrue (stops_late s)) }
     {
@@ -257,6 +263,7 @@ impl<D: EngineDefinition> World<D> {
     /// Looks at the window of the configured failure at this place, if it is one.
     fn look_at(&mut self, agenda: &mut Agenda, index: usize, crash: &Crash) -> Result<(), Stop>
         ensures disturbs { OnOk result ((peer_of : _) → Disturbs peer_of agenda.old agenda.new self.old self.new) }
+        ensures started { OnOk result (self.new.exercise.delayed_started ≡ self.old.exercise.delayed_started) }
         ensures skips { IfErr result (λ s. (s ≡ Stop.OutOfMemory) ⊎ ((height : ℕ) × (s ≡ Stop.Fault (PlanFault.SkippedWindow height)) × IsTrue (is_passed height crash.now))) }
         ensures late { IfErr result (λ s. IsTrue (stops_late s)) }
     {
@@ -290,6 +297,7 @@ impl<D: EngineDefinition> World<D> {
         window: Window,
     ) -> Result<(), Stop>
         ensures disturbs { OnOk result ((peer_of : _) → Disturbs peer_of agenda.old agenda.new self.old self.new) }
+        ensures started { OnOk result (self.new.exercise.delayed_started ≡ self.old.exercise.delayed_started) }
         ensures skips { IfErr result (λ s. (s ≡ Stop.OutOfMemory) ⊎ ((height : ℕ) × (s ≡ Stop.Fault (PlanFault.SkippedWindow height)) × IsTrue (nat_lt window.last height))) }
         ensures late { IfErr result (λ s. IsTrue (stops_late s)) }
     {
@@ -332,22 +340,18 @@ impl<D: EngineDefinition> World<D> {
         agenda: &mut Agenda,
         tracker: &ProgressTracker,
     ) -> Result<(), OutOfMemory>
-        ensures { OnOk result (Disturbs (D.peer_of plan.now.engine) agenda.old agenda.new self.old self.new) }
+        ensures disturbs { OnOk result (Disturbs (D.peer_of plan.now.engine) agenda.old agenda.new self.old self.new) }
+        ensures started { OnOk result (self.new.exercise.delayed_started ≡ (self.old.exercise.delayed_started || starts plan.now.participants plan.now.crashes tracker.now)) }
     {
+        let participants = plan.participants.as_slice();
+        let crashes = plan.crashes.as_slice();
         if self.exercise.delayed_started {
             return Ok(());
         }
-        if !is_due(plan.crashes.as_slice(), tracker.max_round()) {
+        if !is_due(participants, crashes, tracker) {
             return Ok(());
         }
-        let delayed = late_ones(
-            self.alloc,
-            plan.participants.as_slice(),
-            named_late_by(plan.crashes.as_slice()),
-        )?;
-        if delayed.len() == 0 {
-            return Ok(());
-        }
+        let delayed = late_ones(self.alloc, participants, named_late_by(crashes))?;
         match self.launch_all(plan, agenda, delayed) {
             Ok(()) => {
                 self.exercise.delayed_started = true;
@@ -438,17 +442,44 @@ fn pick(words: &mut Pcg32, left: &mut Vec<Peer>) -> Peer
     left.remove(at)
 }
 
-/// Whether a round reaches the one at which the delayed participants are started.
-fn is_due(crashes: &[Crash], reached: Option<Round>) -> bool {
+/// Whether a finalized round reaches the one at which the delayed participants are started, and there are
+/// some.
+fn is_due(participants: &[Peer], crashes: &[Crash], tracker: &ProgressTracker) -> bool
+    ensures { result ≡ starts participants.now crashes.now tracker.now }
+{
+    any_reaches(crashes, tracker) && count_late(participants, named_late_by(crashes)) != 0
+}
+
+/// Whether a finalized round reaches the one at which the delayed participants are started.
+fn any_reaches(crashes: &[Crash], tracker: &ProgressTracker) -> bool
+    ensures { result ≡ list_any (reaches (delay_round crashes.now)) (finalized_rounds tracker.now) }
+{
+    is_reached(delay_of(crashes), tracker.max_round())
+}
+
+/// Whether there is a round that is due, and one that isn't before it.
+fn is_reached(due: Option<Round>, reached: Option<Round>) -> bool
+    ensures { result ≡ unwrap_or (option_map (reaches due) reached) false }
+{
+    let Some(reached) = reached else {
+        return false;
+    };
+    match due {
+        Some(due) => reached >= due,
+        None => false,
+    }
+}
+
+/// The round at which the delayed participants are started.
+fn delay_of(crashes: &[Crash]) -> Option<Round>
+    ensures { result ≡ delay_round crashes.now }
+{
     for crash in crashes {
         if let Crash::DelayRound { round, .. } = crash {
-            return match reached {
-                Some(reached) => reached >= *round,
-                None => false,
-            };
+            return Some(*round);
         }
     }
-    false
+    None
 }
 
 /// The peers that the plan's failures name to be started late.

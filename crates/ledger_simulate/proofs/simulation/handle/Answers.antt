@@ -1,8 +1,14 @@
 use Rattle.ledger_simulate.proofs.Proceeding.{handles_act, handles_poll, handles_recover, handles_tick}
-use Rattle.std.proofs.Common.{◌≡◌, IsTrue}
+use Rattle.std.proofs.Common.{◌≡◌, [], IfErr, IsTrue, Some, ap, inl, subst, sym, ◌∙◌}
+use Rattle.simulate_parts.specs.Seats.{active_views}
+use Rattle.ledger_simulate.specs.Answering.{Asks, Beholds, StopAnswered}
+use Rattle.ledger_simulate.specs.declared.simulation.Told.{Told}
+use Rattle.ledger_simulate.specs.Plans.{target_count}
+use Rattle.ledger_simulate.proofs.Answering.{if_answered_wider}
+use Rattle.ledger_simulate.proofs.Delaying.{target_none}
 use Rattle.simulate_parts.specs.Engine.{Passes}
 use Rattle.ledger_simulate.specs.Causes.{StopComes, stops_asked}
-use Rattle.ledger_simulate.specs.Handling.{Seated, number_after}
+use Rattle.ledger_simulate.specs.Handling.{Seated, number_after, told_by}
 use Rattle.ledger_simulate.specs.declared.fault.Stop.TheVariants.{OutOfMemory}
 use Rattle.ledger_simulate.proofs.Causing.{if_err_map, stop_asked, stop_short}
 use Rattle.ledger_simulate.proofs.Results.{on_map, on_ok_of}
@@ -59,3 +65,23 @@ pub returns-in-Recover-clause-comes : goal.returns-in-Recover-clause-comes
 returns-in-Recover-clause-comes g c =
     let engine = c.args.plan.now.engine in
     if_err_map (λ s. s ≡ OutOfMemory) (StopComes c.args.plan.now.crashes (λ u. Seated (g.D.EngineDefinition.peer_of engine) (number_after c.args.agenda.now) c.args.world.now.seats.entries → Passes (g.D.EngineDefinition.reports engine) u) c.args.watch.now) (stop_short c.args.plan.now.crashes (λ u. Seated (g.D.EngineDefinition.peer_of engine) (number_after c.args.agenda.now) c.args.world.now.seats.entries → Passes (g.D.EngineDefinition.reports engine) u) c.args.watch.now) c.unless_short-in-Recover.result c.unless_short-in-Recover.ensures.short
+
+pub returns-in-ExitPoll-clause-answered : goal.returns-in-ExitPoll-clause-answered
+returns-in-ExitPoll-clause-answered g c =
+    if_answered_wider (λ x. (goal.FinalizationProperty-dyn g (x.vtable, x.value)).finalization_name x.value) (λ x. (goal.FinalizationProperty-dyn g (x.vtable, x.value)).finalization_complaint x.value) (λ x. (goal.Property-dyn g (x.vtable, x.value)).property_name x.value) (λ x. (goal.Property-dyn g (x.vtable, x.value)).property_complaint x.value) (λ x. (goal.ExitCondition-dyn g (x.vtable, x.value)).exit_name x.value) (λ x. (goal.ExitCondition-dyn g (x.vtable, x.value)).exit_verdict x.value) c.args.plan.now.finalization_property c.args.plan.now.property c.args.plan.now.exit_condition (λ m v. (m ≡ []) × (v ≡ active_views g.D.State.ProcessedHeight.height_of g.D.State.ProcessedHeight.bytes_of c.args.world.now.seats.entries)) (λ m v n. (m ≡ []) × (v ≡ active_views g.D.State.ProcessedHeight.height_of g.D.State.ProcessedHeight.bytes_of c.args.world.now.seats.entries) × (n ≡ target_count c.args.plan.now.participants c.args.plan.now.crashes c.args.world.now.exercise.delayed_started)) (λ m v. ⊥) (Beholds (g.D.EngineDefinition.peer_of c.args.plan.now.engine) (g.D.EngineDefinition.journal c.args.plan.now.engine) (g.D.EngineDefinition.reports c.args.plan.now.engine) g.D.State.ProcessedHeight.height_of g.D.State.ProcessedHeight.bytes_of (told_by c.args.key c.args.event) c.args.agenda.now c.args.world.now) (Asks (g.D.EngineDefinition.peer_of c.args.plan.now.engine) (g.D.EngineDefinition.journal c.args.plan.now.engine) (g.D.EngineDefinition.reports c.args.plan.now.engine) g.D.State.ProcessedHeight.height_of g.D.State.ProcessedHeight.bytes_of (told_by c.args.key c.args.event) c.args.plan.now.participants c.args.plan.now.crashes c.args.watch.now c.args.agenda.now c.args.world.now) (λ m v. ⊥)
+    c.args.watch.now c.poll.result (λ m v is. inl is) (λ m v n is. (inl (is.0, is.1), target_none c.args.plan.now.participants c.args.plan.now.crashes c.args.watch.now m c.args.world.now.exercise.delayed_started n is.0 is.2)) (λ m v never. absurd never) c.poll.ensures.answered
+
+pub returns-in-Started-clause-answered : goal.returns-in-Started-clause-answered
+returns-in-Started-clause-answered g c =
+    subst (λ t. IfErr c.step_at.result (StopAnswered (λ x. (goal.FinalizationProperty-dyn g (x.vtable, x.value)).finalization_name x.value) (λ x. (goal.FinalizationProperty-dyn g (x.vtable, x.value)).finalization_complaint x.value) (λ x. (goal.Property-dyn g (x.vtable, x.value)).property_name x.value) (λ x. (goal.Property-dyn g (x.vtable, x.value)).property_complaint x.value) (λ x. (goal.ExitCondition-dyn g (x.vtable, x.value)).exit_name x.value) (λ x. (goal.ExitCondition-dyn g (x.vtable, x.value)).exit_verdict x.value) c.args.plan.now.finalization_property c.args.plan.now.property c.args.plan.now.exit_condition (Beholds (g.D.EngineDefinition.peer_of c.args.plan.now.engine) (g.D.EngineDefinition.journal c.args.plan.now.engine) (g.D.EngineDefinition.reports c.args.plan.now.engine) g.D.State.ProcessedHeight.height_of g.D.State.ProcessedHeight.bytes_of t c.args.agenda.now c.args.world.now) (Asks (g.D.EngineDefinition.peer_of c.args.plan.now.engine) (g.D.EngineDefinition.journal c.args.plan.now.engine) (g.D.EngineDefinition.reports c.args.plan.now.engine) g.D.State.ProcessedHeight.height_of g.D.State.ProcessedHeight.bytes_of t c.args.plan.now.participants c.args.plan.now.crashes c.args.watch.now c.args.agenda.now c.args.world.now) (λ m v. ⊥) c.args.watch.now))
+    (ap (λ (t : Told). Some (t.pk, t.birth, t.event)) c.start.ensures ∙ sym (ap (told_by c.args.key) c.in-Started.is)) c.step_at.ensures.answered
+
+pub returns-in-Timer-clause-answered : goal.returns-in-Timer-clause-answered
+returns-in-Timer-clause-answered g c =
+    subst (λ t. IfErr c.step_at-in-Timer.result (StopAnswered (λ x. (goal.FinalizationProperty-dyn g (x.vtable, x.value)).finalization_name x.value) (λ x. (goal.FinalizationProperty-dyn g (x.vtable, x.value)).finalization_complaint x.value) (λ x. (goal.Property-dyn g (x.vtable, x.value)).property_name x.value) (λ x. (goal.Property-dyn g (x.vtable, x.value)).property_complaint x.value) (λ x. (goal.ExitCondition-dyn g (x.vtable, x.value)).exit_name x.value) (λ x. (goal.ExitCondition-dyn g (x.vtable, x.value)).exit_verdict x.value) c.args.plan.now.finalization_property c.args.plan.now.property c.args.plan.now.exit_condition (Beholds (g.D.EngineDefinition.peer_of c.args.plan.now.engine) (g.D.EngineDefinition.journal c.args.plan.now.engine) (g.D.EngineDefinition.reports c.args.plan.now.engine) g.D.State.ProcessedHeight.height_of g.D.State.ProcessedHeight.bytes_of t c.args.agenda.now c.args.world.now) (Asks (g.D.EngineDefinition.peer_of c.args.plan.now.engine) (g.D.EngineDefinition.journal c.args.plan.now.engine) (g.D.EngineDefinition.reports c.args.plan.now.engine) g.D.State.ProcessedHeight.height_of g.D.State.ProcessedHeight.bytes_of t c.args.plan.now.participants c.args.plan.now.crashes c.args.watch.now c.args.agenda.now c.args.world.now) (λ m v. ⊥) c.args.watch.now))
+    (ap (λ (t : Told). Some (t.pk, t.birth, t.event)) c.timer.ensures ∙ sym (ap (told_by c.args.key) c.in-Timer.is)) c.step_at-in-Timer.ensures.answered
+
+pub returns-in-Received-clause-answered : goal.returns-in-Received-clause-answered
+returns-in-Received-clause-answered g c =
+    subst (λ t. IfErr c.step_at-in-Received.result (StopAnswered (λ x. (goal.FinalizationProperty-dyn g (x.vtable, x.value)).finalization_name x.value) (λ x. (goal.FinalizationProperty-dyn g (x.vtable, x.value)).finalization_complaint x.value) (λ x. (goal.Property-dyn g (x.vtable, x.value)).property_name x.value) (λ x. (goal.Property-dyn g (x.vtable, x.value)).property_complaint x.value) (λ x. (goal.ExitCondition-dyn g (x.vtable, x.value)).exit_name x.value) (λ x. (goal.ExitCondition-dyn g (x.vtable, x.value)).exit_verdict x.value) c.args.plan.now.finalization_property c.args.plan.now.property c.args.plan.now.exit_condition (Beholds (g.D.EngineDefinition.peer_of c.args.plan.now.engine) (g.D.EngineDefinition.journal c.args.plan.now.engine) (g.D.EngineDefinition.reports c.args.plan.now.engine) g.D.State.ProcessedHeight.height_of g.D.State.ProcessedHeight.bytes_of t c.args.agenda.now c.args.world.now) (Asks (g.D.EngineDefinition.peer_of c.args.plan.now.engine) (g.D.EngineDefinition.journal c.args.plan.now.engine) (g.D.EngineDefinition.reports c.args.plan.now.engine) g.D.State.ProcessedHeight.height_of g.D.State.ProcessedHeight.bytes_of t c.args.plan.now.participants c.args.plan.now.crashes c.args.watch.now c.args.agenda.now c.args.world.now) (λ m v. ⊥) c.args.watch.now))
+    (ap (λ (t : Told). Some (t.pk, t.birth, t.event)) c.message-told.ensures ∙ sym (ap (told_by c.args.key) c.in-Received.is)) c.step_at-in-Received.ensures.answered

@@ -1,9 +1,10 @@
-use Rattle.std.proofs.Common.{refl, inl}
+use Rattle.std.proofs.Common.{◌≡◌, [], refl}
+use Rattle.simulate_parts.specs.Seats.{active_views}
+use Rattle.ledger_simulate.specs.Plans.{target_count}
 use Rattle.ledger_simulate.specs.declared.event.Event.TheVariants.{ExitPoll}
 use Rattle.ledger_simulate.proofs.Results.{on_any}
 use Rattle.ledger_simulate.proofs.Stirring.{adds_one, stirs_still}
 use Rattle.ledger_simulate.proofs.Answering.{if_answered_fails}
-use Rattle.ledger_simulate.specs.Answering.{Beholds}
 use Rattle.ledger_simulate.proofs.simulation.poll.Goals as goal
 
 pub returns-in-Ok-clause-stirs : goal.returns-in-Ok-clause-stirs
@@ -14,5 +15,5 @@ returns-in-Ok-clause-stirs g c =
 
 pub returns-in-Ok-clause-answered : goal.returns-in-Ok-clause-answered
 returns-in-Ok-clause-answered g c =
-    if_answered_fails (λ x. (goal.FinalizationProperty-dyn g (x.vtable, x.value)).finalization_name x.value) (λ x. (goal.FinalizationProperty-dyn g (x.vtable, x.value)).finalization_complaint x.value) (λ x. (goal.Property-dyn g (x.vtable, x.value)).property_name x.value) (λ x. (goal.Property-dyn g (x.vtable, x.value)).property_complaint x.value) (λ x. (goal.ExitCondition-dyn g (x.vtable, x.value)).exit_name x.value) (λ x. (goal.ExitCondition-dyn g (x.vtable, x.value)).exit_verdict x.value) c.args.plan.now.finalization_property c.args.plan.now.property c.args.plan.now.exit_condition c.args.plan.now.participants c.args.plan.now.crashes (Beholds (g.D.EngineDefinition.peer_of c.args.plan.now.engine) (g.D.EngineDefinition.journal c.args.plan.now.engine) (g.D.EngineDefinition.reports c.args.plan.now.engine) g.D.State.ProcessedHeight.height_of g.D.State.ProcessedHeight.bytes_of c.args.agenda.now c.args.world.now) (λ m v. ⊥)
-    c.args.watch.now c.in-Ok.states.items c.args.world.now.exercise.delayed_started c.ask.result (inl (refl, c.in-Ok.ensures.views)) c.ask.ensures.fails
+    if_answered_fails (λ x. (goal.FinalizationProperty-dyn g (x.vtable, x.value)).finalization_name x.value) (λ x. (goal.FinalizationProperty-dyn g (x.vtable, x.value)).finalization_complaint x.value) (λ x. (goal.Property-dyn g (x.vtable, x.value)).property_name x.value) (λ x. (goal.Property-dyn g (x.vtable, x.value)).property_complaint x.value) (λ x. (goal.ExitCondition-dyn g (x.vtable, x.value)).exit_name x.value) (λ x. (goal.ExitCondition-dyn g (x.vtable, x.value)).exit_verdict x.value) c.args.plan.now.finalization_property c.args.plan.now.property c.args.plan.now.exit_condition (λ m v. (m ≡ []) × (v ≡ active_views g.D.State.ProcessedHeight.height_of g.D.State.ProcessedHeight.bytes_of c.args.world.now.seats.entries)) (λ m v n. (m ≡ []) × (v ≡ active_views g.D.State.ProcessedHeight.height_of g.D.State.ProcessedHeight.bytes_of c.args.world.now.seats.entries) × (n ≡ target_count c.args.plan.now.participants c.args.plan.now.crashes c.args.world.now.exercise.delayed_started)) (λ m v. ⊥)
+    c.args.watch.now c.in-Ok.states.items (target_count c.args.plan.now.participants c.args.plan.now.crashes c.args.world.now.exercise.delayed_started) c.ask.result (refl, c.in-Ok.ensures.views, refl) c.ask.ensures.fails

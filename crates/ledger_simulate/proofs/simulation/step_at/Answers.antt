@@ -1,4 +1,7 @@
-use Rattle.std.proofs.Common.{[], Contains, subst, ◌++◌, sym, ap, ◌∙◌, inr}
+use Rattle.std.proofs.Common.{◌≡◌, [], Contains, List, Some, subst, ◌++◌, refl, sym, ap, ◌∙◌, inr}
+use Rattle.simulate_parts.specs.declared.engine.StateView.{StateView}
+use Rattle.simulate_parts.specs.declared.tracker.FinalizationUpdate.{FinalizationUpdate}
+use Rattle.ledger_simulate.specs.Delays.{target_at}
 use Rattle.std.proofs.lemmas.List.{append-nil}
 use Rattle.std.proofs.lemmas.List.Elements.{All-contains}
 use Rattle.simulate_parts.specs.Engine.{Passes, updates_of}
@@ -8,8 +11,8 @@ use Rattle.ledger_simulate.proofs.Causing.{if_err_map, stop_wider}
 use Rattle.ledger_simulate.proofs.Engines.{passes_step}
 use Rattle.ledger_simulate.proofs.Results.{on_both}
 use Rattle.ledger_simulate.proofs.Proceeding.{tells_by}
-use Rattle.ledger_simulate.specs.Answering.{Beholds, Sees, StopAnswered}
-use Rattle.ledger_simulate.proofs.Answering.{stop_answered_since}
+use Rattle.ledger_simulate.specs.Answering.{Asks, Beholds, Sees}
+use Rattle.ledger_simulate.proofs.Answering.{if_answered_wider}
 use Rattle.ledger_simulate.proofs.simulation.step_at.Goals as goal
 
 pub returns-in-Ok-clause-told : goal.returns-in-Ok-clause-told
@@ -46,19 +49,20 @@ returns-in-Ok-clause-comes g c =
 pub returns-in-Ok-clause-answered : goal.returns-in-Ok-clause-answered
 returns-in-Ok-clause-answered g c =
     let given = c.in-Ok.ensures in
-    if_err_map (StopAnswered (λ x. (goal.FinalizationProperty-dyn g (x.vtable, x.value)).finalization_name x.value) (λ x. (goal.FinalizationProperty-dyn g (x.vtable, x.value)).finalization_complaint x.value) (λ x. (goal.Property-dyn g (x.vtable, x.value)).property_name x.value) (λ x. (goal.Property-dyn g (x.vtable, x.value)).property_complaint x.value) (λ x. (goal.ExitCondition-dyn g (x.vtable, x.value)).exit_name x.value) (λ x. (goal.ExitCondition-dyn g (x.vtable, x.value)).exit_verdict x.value) c.args.plan.now.finalization_property c.args.plan.now.property c.args.plan.now.exit_condition c.args.plan.now.participants c.args.plan.now.crashes (Sees (g.D.EngineDefinition.peer_of c.args.plan.now.engine) g.D.State.ProcessedHeight.height_of g.D.State.ProcessedHeight.bytes_of c.step_and_send.new.agenda c.step_and_send.new.world c.in-Ok.updates.items) (λ m v. ⊥) c.args.watch.now)
-    (StopAnswered (λ x. (goal.FinalizationProperty-dyn g (x.vtable, x.value)).finalization_name x.value) (λ x. (goal.FinalizationProperty-dyn g (x.vtable, x.value)).finalization_complaint x.value) (λ x. (goal.Property-dyn g (x.vtable, x.value)).property_name x.value) (λ x. (goal.Property-dyn g (x.vtable, x.value)).property_complaint x.value) (λ x. (goal.ExitCondition-dyn g (x.vtable, x.value)).exit_name x.value) (λ x. (goal.ExitCondition-dyn g (x.vtable, x.value)).exit_verdict x.value) c.args.plan.now.finalization_property c.args.plan.now.property c.args.plan.now.exit_condition c.args.plan.now.participants c.args.plan.now.crashes (Beholds (g.D.EngineDefinition.peer_of c.args.plan.now.engine) (g.D.EngineDefinition.journal c.args.plan.now.engine) (g.D.EngineDefinition.reports c.args.plan.now.engine) g.D.State.ProcessedHeight.height_of g.D.State.ProcessedHeight.bytes_of c.args.agenda.now c.args.world.now) (λ m v. ⊥) c.args.watch.now)
-    (stop_answered_since (λ x. (goal.FinalizationProperty-dyn g (x.vtable, x.value)).finalization_name x.value) (λ x. (goal.FinalizationProperty-dyn g (x.vtable, x.value)).finalization_complaint x.value) (λ x. (goal.Property-dyn g (x.vtable, x.value)).property_name x.value) (λ x. (goal.Property-dyn g (x.vtable, x.value)).property_complaint x.value) (λ x. (goal.ExitCondition-dyn g (x.vtable, x.value)).exit_name x.value) (λ x. (goal.ExitCondition-dyn g (x.vtable, x.value)).exit_verdict x.value) c.args.plan.now.finalization_property c.args.plan.now.property c.args.plan.now.exit_condition c.args.plan.now.participants c.args.plan.now.crashes (Sees (g.D.EngineDefinition.peer_of c.args.plan.now.engine) g.D.State.ProcessedHeight.height_of g.D.State.ProcessedHeight.bytes_of c.step_and_send.new.agenda c.step_and_send.new.world c.in-Ok.updates.items) (λ m v. ⊥) (Beholds (g.D.EngineDefinition.peer_of c.args.plan.now.engine) (g.D.EngineDefinition.journal c.args.plan.now.engine) (g.D.EngineDefinition.reports c.args.plan.now.engine) g.D.State.ProcessedHeight.height_of g.D.State.ProcessedHeight.bytes_of c.args.agenda.now c.args.world.now) (λ m v. ⊥)
-    c.args.watch.now c.args.watch.now []
-    (λ m v sees. inr (record {
+    let after : (m : List FinalizationUpdate) (v : List StateView) → Sees (g.D.EngineDefinition.peer_of c.args.plan.now.engine) g.D.State.ProcessedHeight.height_of g.D.State.ProcessedHeight.bytes_of c.step_and_send.new.agenda c.step_and_send.new.world c.in-Ok.updates.items m v → Beholds (g.D.EngineDefinition.peer_of c.args.plan.now.engine) (g.D.EngineDefinition.journal c.args.plan.now.engine) (g.D.EngineDefinition.reports c.args.plan.now.engine) g.D.State.ProcessedHeight.height_of g.D.State.ProcessedHeight.bytes_of (Some (c.args.told.pk, c.args.told.birth, c.args.told.event)) c.args.agenda.now c.args.world.now m v = λ m v sees.
+    inr (record {
       pk = c.args.told.pk;
-      birth = c.in-Some.birth;
+      given_birth = c.args.told.birth;
       event = c.args.told.event;
+      tells = refl;
+      birth = c.in-Some.birth;
+      runs = sym c.addressed.ensures ∙ c.in-Some.is;
       out = given.0;
       given = c.step_and_send.new.agenda;
       mid = c.step_and_send.new.world;
       gives = given.1;
       sees = subst (λ us. Sees (g.D.EngineDefinition.peer_of c.args.plan.now.engine) g.D.State.ProcessedHeight.height_of g.D.State.ProcessedHeight.bytes_of c.step_and_send.new.agenda c.step_and_send.new.world us m v) given.2 sees;
-    }))
-    (λ m v never. absurd never) (sym (append-nil c.args.watch.now)))
-    c.take_reports.result c.take_reports.ensures.answered
+    }) in
+    if_answered_wider (λ x. (goal.FinalizationProperty-dyn g (x.vtable, x.value)).finalization_name x.value) (λ x. (goal.FinalizationProperty-dyn g (x.vtable, x.value)).finalization_complaint x.value) (λ x. (goal.Property-dyn g (x.vtable, x.value)).property_name x.value) (λ x. (goal.Property-dyn g (x.vtable, x.value)).property_complaint x.value) (λ x. (goal.ExitCondition-dyn g (x.vtable, x.value)).exit_name x.value) (λ x. (goal.ExitCondition-dyn g (x.vtable, x.value)).exit_verdict x.value) c.args.plan.now.finalization_property c.args.plan.now.property c.args.plan.now.exit_condition (Sees (g.D.EngineDefinition.peer_of c.args.plan.now.engine) g.D.State.ProcessedHeight.height_of g.D.State.ProcessedHeight.bytes_of c.step_and_send.new.agenda c.step_and_send.new.world c.in-Ok.updates.items) (λ m v n. Sees (g.D.EngineDefinition.peer_of c.args.plan.now.engine) g.D.State.ProcessedHeight.height_of g.D.State.ProcessedHeight.bytes_of c.step_and_send.new.agenda c.step_and_send.new.world c.in-Ok.updates.items m v × (n ≡ target_at c.args.plan.now.participants c.args.plan.now.crashes c.args.watch.now c.step_and_send.new.world.exercise.delayed_started m)) (λ m v. ⊥) (Beholds (g.D.EngineDefinition.peer_of c.args.plan.now.engine) (g.D.EngineDefinition.journal c.args.plan.now.engine) (g.D.EngineDefinition.reports c.args.plan.now.engine) g.D.State.ProcessedHeight.height_of g.D.State.ProcessedHeight.bytes_of (Some (c.args.told.pk, c.args.told.birth, c.args.told.event)) c.args.agenda.now c.args.world.now) (Asks (g.D.EngineDefinition.peer_of c.args.plan.now.engine) (g.D.EngineDefinition.journal c.args.plan.now.engine) (g.D.EngineDefinition.reports c.args.plan.now.engine) g.D.State.ProcessedHeight.height_of g.D.State.ProcessedHeight.bytes_of (Some (c.args.told.pk, c.args.told.birth, c.args.told.event)) c.args.plan.now.participants c.args.plan.now.crashes c.args.watch.now c.args.agenda.now c.args.world.now) (λ m v. ⊥)
+    c.args.watch.now c.take_reports.result after (λ m v n is. (after m v is.0, is.1 ∙ ap (λ e. target_at c.args.plan.now.participants c.args.plan.now.crashes c.args.watch.now e.delayed_started m) given.1.exercise))
+    (λ m v never. absurd never) c.take_reports.ensures.answered

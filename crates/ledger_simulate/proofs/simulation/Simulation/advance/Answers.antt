@@ -1,14 +1,16 @@
-use Rattle.std.proofs.Common.{[], sym, ap, ◌∙◌, subst}
+use Rattle.std.proofs.Common.{[], List, sym, ap, ◌∙◌, subst}
+use Rattle.simulate_parts.specs.declared.engine.StateView.{StateView}
+use Rattle.simulate_parts.specs.declared.tracker.FinalizationUpdate.{FinalizationUpdate}
 use Rattle.std.proofs.lemmas.List.{append-nil}
 use Rattle.simulate_parts.specs.Engine.{Passes}
 use Rattle.ledger_simulate.specs.Causes.{StopComes}
-use Rattle.ledger_simulate.specs.Handling.{Seated, number_after}
+use Rattle.ledger_simulate.specs.Handling.{Seated, number_after, told_by, told_first}
 use Rattle.ledger_simulate.specs.Plans.{target_count}
 use Rattle.ledger_simulate.specs.Queue.{empty_agenda}
 use Rattle.ledger_simulate.proofs.Causing.{ends_by, stop_wider}
 use Rattle.ledger_simulate.proofs.Proceeding.{goes_on, grows_by, seated_begun}
-use Rattle.ledger_simulate.proofs.Answering.{answered_since, agenda_begun, stop_answered_since, ends_of}
-use Rattle.ledger_simulate.specs.Answering.{Beholds, StopAnswered, Ends, EndsAt}
+use Rattle.ledger_simulate.proofs.Answering.{answered_since, beholds_begun, stop_answered_since, ends_of}
+use Rattle.ledger_simulate.specs.Answering.{Asks, Beholds, StopAnswered, Ends, EndsAt}
 use Rattle.ledger_simulate.proofs.simulation.Simulation.advance.Goals as goal
 
 pub returns-in-Ok-None-clause-on : goal.returns-in-Ok-None-clause-on
@@ -45,8 +47,8 @@ returns-clause-comes g c = λ e h.
 pub returns-in-Ok-Some-clause-answered : goal.returns-in-Ok-Some-clause-answered
 returns-in-Ok-Some-clause-answered g c = λ e h.
     let grown = c.in-Ok-Some.ensures.updates in
-    answered_since (λ x. (goal.FinalizationProperty-dyn g (x.vtable, x.value)).finalization_name x.value) (λ x. (goal.FinalizationProperty-dyn g (x.vtable, x.value)).finalization_complaint x.value) (λ x. (goal.Property-dyn g (x.vtable, x.value)).property_name x.value) (λ x. (goal.Property-dyn g (x.vtable, x.value)).property_complaint x.value) (λ x. (goal.ExitCondition-dyn g (x.vtable, x.value)).exit_name x.value) (λ x. (goal.ExitCondition-dyn g (x.vtable, x.value)).exit_verdict x.value) c.args.self.plan.now.finalization_property c.args.self.plan.now.property c.args.self.plan.now.exit_condition c.args.self.plan.now.participants c.args.self.plan.now.crashes (λ m v. ⊥) (EndsAt (λ x. (goal.ExitCondition-dyn g (x.vtable, x.value)).exit_verdict x.value) c.args.self.plan.now.exit_condition c.args.self.plan.now.required_finalizations (target_count c.args.self.plan.now.participants c.args.self.plan.now.crashes c.handle-outcome.new.world.exercise.delayed_started) c.handle-outcome.new.watch) (Beholds (g.D.EngineDefinition.peer_of c.args.self.plan.now.engine) (g.D.EngineDefinition.journal c.args.self.plan.now.engine) (g.D.EngineDefinition.reports c.args.self.plan.now.engine) g.D.State.ProcessedHeight.height_of g.D.State.ProcessedHeight.bytes_of (empty_agenda c.args.self.queue.next) c.args.self.world) (Ends (g.D.EngineDefinition.peer_of c.args.self.plan.now.engine) (g.D.EngineDefinition.journal c.args.self.plan.now.engine) (g.D.EngineDefinition.reports c.args.self.plan.now.engine) (λ x. (goal.ExitCondition-dyn g (x.vtable, x.value)).exit_verdict x.value) c.args.self.plan.now.exit_condition c.args.self.plan.now.required_finalizations c.args.self.plan.now.participants c.args.self.plan.now.crashes c.args.self.queue c.args.self.watch c.args.self.world)
-    c.args.self.watch c.handle-outcome.new.watch grown.added (λ m v never. absurd never)
+    answered_since (λ x. (goal.FinalizationProperty-dyn g (x.vtable, x.value)).finalization_name x.value) (λ x. (goal.FinalizationProperty-dyn g (x.vtable, x.value)).finalization_complaint x.value) (λ x. (goal.Property-dyn g (x.vtable, x.value)).property_name x.value) (λ x. (goal.Property-dyn g (x.vtable, x.value)).property_complaint x.value) (λ x. (goal.ExitCondition-dyn g (x.vtable, x.value)).exit_name x.value) (λ x. (goal.ExitCondition-dyn g (x.vtable, x.value)).exit_verdict x.value) c.args.self.plan.now.finalization_property c.args.self.plan.now.property c.args.self.plan.now.exit_condition (λ m v. ⊥) (λ m v n. ⊥) (EndsAt (λ x. (goal.ExitCondition-dyn g (x.vtable, x.value)).exit_verdict x.value) c.args.self.plan.now.exit_condition c.args.self.plan.now.required_finalizations (target_count c.args.self.plan.now.participants c.args.self.plan.now.crashes c.handle-outcome.new.world.exercise.delayed_started) c.handle-outcome.new.watch) (Beholds (g.D.EngineDefinition.peer_of c.args.self.plan.now.engine) (g.D.EngineDefinition.journal c.args.self.plan.now.engine) (g.D.EngineDefinition.reports c.args.self.plan.now.engine) g.D.State.ProcessedHeight.height_of g.D.State.ProcessedHeight.bytes_of (told_first c.args.self.queue) (empty_agenda c.args.self.queue.next) c.args.self.world) (Asks (g.D.EngineDefinition.peer_of c.args.self.plan.now.engine) (g.D.EngineDefinition.journal c.args.self.plan.now.engine) (g.D.EngineDefinition.reports c.args.self.plan.now.engine) g.D.State.ProcessedHeight.height_of g.D.State.ProcessedHeight.bytes_of (told_first c.args.self.queue) c.args.self.plan.now.participants c.args.self.plan.now.crashes c.args.self.watch (empty_agenda c.args.self.queue.next) c.args.self.world) (Ends (g.D.EngineDefinition.peer_of c.args.self.plan.now.engine) (g.D.EngineDefinition.journal c.args.self.plan.now.engine) (g.D.EngineDefinition.reports c.args.self.plan.now.engine) (λ x. (goal.ExitCondition-dyn g (x.vtable, x.value)).exit_verdict x.value) c.args.self.plan.now.exit_condition c.args.self.plan.now.required_finalizations c.args.self.plan.now.participants c.args.self.plan.now.crashes c.args.self.queue c.args.self.watch c.args.self.world)
+    c.args.self.watch c.handle-outcome.new.watch grown.added (λ m v never. absurd never) (λ m v n never. absurd never)
     (λ m v is.
     ends_of (g.D.EngineDefinition.peer_of c.args.self.plan.now.engine) (g.D.EngineDefinition.journal c.args.self.plan.now.engine) (g.D.EngineDefinition.reports c.args.self.plan.now.engine) (λ x. (goal.ExitCondition-dyn g (x.vtable, x.value)).exit_verdict x.value) c.args.self.plan.now.exit_condition c.args.self.plan.now.required_finalizations c.args.self.plan.now.participants c.args.self.plan.now.crashes c.args.self.queue c.take.new.self c.in-Some.entry c.new-agenda.result c.handle-outcome.new.agenda
     c.args.self.watch c.handle-outcome.new.watch grown.added m c.args.self.world c.handle-outcome.new.world v c.in-Some.ensures.taken (c.new-agenda.ensures ∙ ap empty_agenda c.next.ensures)
@@ -55,10 +57,11 @@ returns-in-Ok-Some-clause-answered g c = λ e h.
 
 pub returns-clause-answered : goal.returns-clause-answered
 returns-clause-answered g c = λ e h.
-    subst (StopAnswered (λ x. (goal.FinalizationProperty-dyn g (x.vtable, x.value)).finalization_name x.value) (λ x. (goal.FinalizationProperty-dyn g (x.vtable, x.value)).finalization_complaint x.value) (λ x. (goal.Property-dyn g (x.vtable, x.value)).property_name x.value) (λ x. (goal.Property-dyn g (x.vtable, x.value)).property_complaint x.value) (λ x. (goal.ExitCondition-dyn g (x.vtable, x.value)).exit_name x.value) (λ x. (goal.ExitCondition-dyn g (x.vtable, x.value)).exit_verdict x.value) c.args.self.plan.now.finalization_property c.args.self.plan.now.property c.args.self.plan.now.exit_condition c.args.self.plan.now.participants c.args.self.plan.now.crashes (Beholds (g.D.EngineDefinition.peer_of c.args.self.plan.now.engine) (g.D.EngineDefinition.journal c.args.self.plan.now.engine) (g.D.EngineDefinition.reports c.args.self.plan.now.engine) g.D.State.ProcessedHeight.height_of g.D.State.ProcessedHeight.bytes_of (empty_agenda c.args.self.queue.next) c.args.self.world) (Ends (g.D.EngineDefinition.peer_of c.args.self.plan.now.engine) (g.D.EngineDefinition.journal c.args.self.plan.now.engine) (g.D.EngineDefinition.reports c.args.self.plan.now.engine) (λ x. (goal.ExitCondition-dyn g (x.vtable, x.value)).exit_verdict x.value) c.args.self.plan.now.exit_condition c.args.self.plan.now.required_finalizations c.args.self.plan.now.participants c.args.self.plan.now.crashes c.args.self.queue c.args.self.watch c.args.self.world) c.args.self.watch) (ends_by c.in-Err.stop c.stopped.result _ _ _ _ e c.stopped.ensures h).0
-    (stop_answered_since (λ x. (goal.FinalizationProperty-dyn g (x.vtable, x.value)).finalization_name x.value) (λ x. (goal.FinalizationProperty-dyn g (x.vtable, x.value)).finalization_complaint x.value) (λ x. (goal.Property-dyn g (x.vtable, x.value)).property_name x.value) (λ x. (goal.Property-dyn g (x.vtable, x.value)).property_complaint x.value) (λ x. (goal.ExitCondition-dyn g (x.vtable, x.value)).exit_name x.value) (λ x. (goal.ExitCondition-dyn g (x.vtable, x.value)).exit_verdict x.value) c.args.self.plan.now.finalization_property c.args.self.plan.now.property c.args.self.plan.now.exit_condition c.args.self.plan.now.participants c.args.self.plan.now.crashes (Beholds (g.D.EngineDefinition.peer_of c.args.self.plan.now.engine) (g.D.EngineDefinition.journal c.args.self.plan.now.engine) (g.D.EngineDefinition.reports c.args.self.plan.now.engine) g.D.State.ProcessedHeight.height_of g.D.State.ProcessedHeight.bytes_of c.new-agenda.result c.args.self.world) (λ m v. ⊥) (Beholds (g.D.EngineDefinition.peer_of c.args.self.plan.now.engine) (g.D.EngineDefinition.journal c.args.self.plan.now.engine) (g.D.EngineDefinition.reports c.args.self.plan.now.engine) g.D.State.ProcessedHeight.height_of g.D.State.ProcessedHeight.bytes_of (empty_agenda c.args.self.queue.next) c.args.self.world) (Ends (g.D.EngineDefinition.peer_of c.args.self.plan.now.engine) (g.D.EngineDefinition.journal c.args.self.plan.now.engine) (g.D.EngineDefinition.reports c.args.self.plan.now.engine) (λ x. (goal.ExitCondition-dyn g (x.vtable, x.value)).exit_verdict x.value) c.args.self.plan.now.exit_condition c.args.self.plan.now.required_finalizations c.args.self.plan.now.participants c.args.self.plan.now.crashes c.args.self.queue c.args.self.watch c.args.self.world)
+    let begun : (m : List FinalizationUpdate) (v : List StateView) → Beholds (g.D.EngineDefinition.peer_of c.args.self.plan.now.engine) (g.D.EngineDefinition.journal c.args.self.plan.now.engine) (g.D.EngineDefinition.reports c.args.self.plan.now.engine) g.D.State.ProcessedHeight.height_of g.D.State.ProcessedHeight.bytes_of (told_by c.in-Some.entry.0 c.in-Some.entry.1) c.new-agenda.result c.args.self.world m v → Beholds (g.D.EngineDefinition.peer_of c.args.self.plan.now.engine) (g.D.EngineDefinition.journal c.args.self.plan.now.engine) (g.D.EngineDefinition.reports c.args.self.plan.now.engine) g.D.State.ProcessedHeight.height_of g.D.State.ProcessedHeight.bytes_of (told_first c.args.self.queue) (empty_agenda c.args.self.queue.next) c.args.self.world m v = λ m v.
+    beholds_begun (g.D.EngineDefinition.peer_of c.args.self.plan.now.engine) (g.D.EngineDefinition.journal c.args.self.plan.now.engine) (g.D.EngineDefinition.reports c.args.self.plan.now.engine) g.D.State.ProcessedHeight.height_of g.D.State.ProcessedHeight.bytes_of c.args.self.queue c.take.new.self c.in-Some.entry c.new-agenda.result c.args.self.world m v c.in-Some.ensures.taken (c.new-agenda.ensures ∙ ap empty_agenda c.next.ensures) in
+    subst (StopAnswered (λ x. (goal.FinalizationProperty-dyn g (x.vtable, x.value)).finalization_name x.value) (λ x. (goal.FinalizationProperty-dyn g (x.vtable, x.value)).finalization_complaint x.value) (λ x. (goal.Property-dyn g (x.vtable, x.value)).property_name x.value) (λ x. (goal.Property-dyn g (x.vtable, x.value)).property_complaint x.value) (λ x. (goal.ExitCondition-dyn g (x.vtable, x.value)).exit_name x.value) (λ x. (goal.ExitCondition-dyn g (x.vtable, x.value)).exit_verdict x.value) c.args.self.plan.now.finalization_property c.args.self.plan.now.property c.args.self.plan.now.exit_condition (Beholds (g.D.EngineDefinition.peer_of c.args.self.plan.now.engine) (g.D.EngineDefinition.journal c.args.self.plan.now.engine) (g.D.EngineDefinition.reports c.args.self.plan.now.engine) g.D.State.ProcessedHeight.height_of g.D.State.ProcessedHeight.bytes_of (told_first c.args.self.queue) (empty_agenda c.args.self.queue.next) c.args.self.world) (Asks (g.D.EngineDefinition.peer_of c.args.self.plan.now.engine) (g.D.EngineDefinition.journal c.args.self.plan.now.engine) (g.D.EngineDefinition.reports c.args.self.plan.now.engine) g.D.State.ProcessedHeight.height_of g.D.State.ProcessedHeight.bytes_of (told_first c.args.self.queue) c.args.self.plan.now.participants c.args.self.plan.now.crashes c.args.self.watch (empty_agenda c.args.self.queue.next) c.args.self.world) (Ends (g.D.EngineDefinition.peer_of c.args.self.plan.now.engine) (g.D.EngineDefinition.journal c.args.self.plan.now.engine) (g.D.EngineDefinition.reports c.args.self.plan.now.engine) (λ x. (goal.ExitCondition-dyn g (x.vtable, x.value)).exit_verdict x.value) c.args.self.plan.now.exit_condition c.args.self.plan.now.required_finalizations c.args.self.plan.now.participants c.args.self.plan.now.crashes c.args.self.queue c.args.self.watch c.args.self.world) c.args.self.watch) (ends_by c.in-Err.stop c.stopped.result _ _ _ _ e c.stopped.ensures h).0
+    (stop_answered_since (λ x. (goal.FinalizationProperty-dyn g (x.vtable, x.value)).finalization_name x.value) (λ x. (goal.FinalizationProperty-dyn g (x.vtable, x.value)).finalization_complaint x.value) (λ x. (goal.Property-dyn g (x.vtable, x.value)).property_name x.value) (λ x. (goal.Property-dyn g (x.vtable, x.value)).property_complaint x.value) (λ x. (goal.ExitCondition-dyn g (x.vtable, x.value)).exit_name x.value) (λ x. (goal.ExitCondition-dyn g (x.vtable, x.value)).exit_verdict x.value) c.args.self.plan.now.finalization_property c.args.self.plan.now.property c.args.self.plan.now.exit_condition (Beholds (g.D.EngineDefinition.peer_of c.args.self.plan.now.engine) (g.D.EngineDefinition.journal c.args.self.plan.now.engine) (g.D.EngineDefinition.reports c.args.self.plan.now.engine) g.D.State.ProcessedHeight.height_of g.D.State.ProcessedHeight.bytes_of (told_by c.in-Some.entry.0 c.in-Some.entry.1) c.new-agenda.result c.args.self.world) (Asks (g.D.EngineDefinition.peer_of c.args.self.plan.now.engine) (g.D.EngineDefinition.journal c.args.self.plan.now.engine) (g.D.EngineDefinition.reports c.args.self.plan.now.engine) g.D.State.ProcessedHeight.height_of g.D.State.ProcessedHeight.bytes_of (told_by c.in-Some.entry.0 c.in-Some.entry.1) c.args.self.plan.now.participants c.args.self.plan.now.crashes c.args.self.watch c.new-agenda.result c.args.self.world) (λ m v. ⊥) (Beholds (g.D.EngineDefinition.peer_of c.args.self.plan.now.engine) (g.D.EngineDefinition.journal c.args.self.plan.now.engine) (g.D.EngineDefinition.reports c.args.self.plan.now.engine) g.D.State.ProcessedHeight.height_of g.D.State.ProcessedHeight.bytes_of (told_first c.args.self.queue) (empty_agenda c.args.self.queue.next) c.args.self.world) (Asks (g.D.EngineDefinition.peer_of c.args.self.plan.now.engine) (g.D.EngineDefinition.journal c.args.self.plan.now.engine) (g.D.EngineDefinition.reports c.args.self.plan.now.engine) g.D.State.ProcessedHeight.height_of g.D.State.ProcessedHeight.bytes_of (told_first c.args.self.queue) c.args.self.plan.now.participants c.args.self.plan.now.crashes c.args.self.watch (empty_agenda c.args.self.queue.next) c.args.self.world) (Ends (g.D.EngineDefinition.peer_of c.args.self.plan.now.engine) (g.D.EngineDefinition.journal c.args.self.plan.now.engine) (g.D.EngineDefinition.reports c.args.self.plan.now.engine) (λ x. (goal.ExitCondition-dyn g (x.vtable, x.value)).exit_verdict x.value) c.args.self.plan.now.exit_condition c.args.self.plan.now.required_finalizations c.args.self.plan.now.participants c.args.self.plan.now.crashes c.args.self.queue c.args.self.watch c.args.self.world)
     c.args.self.watch c.args.self.watch []
-    (λ m v beheld.
-    subst (λ a. Beholds (g.D.EngineDefinition.peer_of c.args.self.plan.now.engine) (g.D.EngineDefinition.journal c.args.self.plan.now.engine) (g.D.EngineDefinition.reports c.args.self.plan.now.engine) g.D.State.ProcessedHeight.height_of g.D.State.ProcessedHeight.bytes_of a c.args.self.world m v)
-    (agenda_begun c.args.self.queue c.take.new.self c.in-Some.entry c.new-agenda.result c.in-Some.ensures.taken (c.new-agenda.ensures ∙ ap empty_agenda c.next.ensures)) beheld)
+    begun
+    (λ m v n is. (begun m v is.0, is.1))
     (λ m v never. absurd never) (sym (append-nil c.args.self.watch)) c.in-Err.stop c.in-Err.ensures.answered)
