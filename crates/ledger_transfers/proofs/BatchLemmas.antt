@@ -26,13 +26,9 @@ use Rattle.ledger_transfers.proofs.SelectLemmas.{Some_injective, lookup_equal}
 use Rattle.ledger_transfers.proofs.DecideLemmas.{found_at}
 use Rattle.ledger_transfers.proofs.TakenLemmas.{all_touched}
 use Rattle.ledger_transfers.proofs.RegisterLemmas.{key_at}
+use Rattle.ledger_transfers.proofs.WholeLemmas.{there_is}
 
 module _ {X : Type 0} where
-  there_is : (xs : List X) (i : ℕ) → i < length xs → (x : X) × (slice_get xs i ≡ Some x)
-  there_is [] i l = absurd (omega (arith, l))
-  there_is (x ∷ xs) zero l = (x, refl)
-  there_is (x ∷ xs) (suc i) l = there_is xs i (omega (arith, l))
-
   is_within : (xs : List X) (i : ℕ) (x : X) → slice_get xs i ≡ Some x → i < length xs
   is_within [] i x h = absurd (true≢false (sym (ap is_some h)))
   is_within (y ∷ xs) zero x h = omega arith

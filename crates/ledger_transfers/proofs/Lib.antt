@@ -6,9 +6,13 @@ pub mod GreedyLemmas
 pub mod SettleLemmas
 pub mod TakingLemmas
 pub mod SelectLemmas
+pub mod ReviseLemmas
+pub mod TriedLemmas
 pub mod DecideLemmas
+pub mod AddedLemmas
 pub mod TakenLemmas
 pub mod VerdictLemmas
+pub mod WholeLemmas
 pub mod RegisterLemmas
 pub mod BatchLemmas
 pub mod OrderLemmas

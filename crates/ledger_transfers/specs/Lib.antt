@@ -5,6 +5,8 @@ pub mod Adds
 pub mod Settling
 pub mod Taking
 pub mod Selecting
+pub mod Revising
+pub mod Trying
 pub mod Accounts
 pub mod AccountProofs
 pub mod Registering

@@ -1,5 +1,5 @@
 -- What a selection stands for.
-use Rattle.std.specs.Prelude.{◌≡◌, ℕ, ◌≤◌, ◌++◌, Bool, List, [], ◌∷◌, Option, None, Some, IsSome, MatchBool, option_and_then, slice_get, length, if◌then◌else◌, ⊤}
+use Rattle.std.specs.Prelude.{◌≡◌, ℕ, ◌≤◌, ◌++◌, Bool, List, [], ◌∷◌, Some, IsSome, MatchBool, option_and_then, slice_get, if◌then◌else◌, ⊤}
 use Rattle.std.specs.List.{All}
 use Rattle.std.specs.Option.{option_map}
 use Rattle.std.specs.Map.{lookup, keys_of}
@@ -7,9 +7,7 @@ use Rattle.ledger_transfers.specs.Rules.{Rules}
 use Rattle.ledger_transfers.specs.Touches.{total_of, touches, max_amount}
 use Rattle.ledger_transfers.specs.Settling.{opened, Settled}
 use Rattle.ledger_transfers.specs.declared.change.Change.{Change}
-use Rattle.ledger_transfers.specs.declared.totals.Totals.{Totals}
-use Rattle.ledger_transfers.specs.Taking.{IsHeld, TakesSums}
-use Rattle.ledger_transfers.specs.declared.held.Sums.{Sums}
+use Rattle.ledger_transfers.specs.Taking.{IsHeld}
 use Rattle.ledger_transfers.specs.declared.held.Held.{Held}
 
 module _ {A E K : Type 0} (eq : K → K → Bool) (same : A → A → Bool) (rules : Rules A E) where
@@ -27,35 +25,6 @@ module _ {A E K : Type 0} (eq : K → K → Bool) (same : A → A → Bool) (rul
 -- what stands at a place of both lists belongs together
 abbrev pub StandTogether : {X Y : Type 0} → (X → Y → Type 0) → List X → List Y → Type 0
 StandTogether {X} {Y} R xs ys = (i : ℕ) (x : X) (y : Y) → slice_get xs i ≡ Some x → slice_get ys i ≡ Some y → R x y
-
-module _ {A E K : Type 0} (eq : K → K → Bool) (same : A → A → Bool) (rules : Rules A E) where
-  -- new sums stand under the plan's key, and are those of the key with the candidate
-  abbrev pub IsNew : List (K × Held A) → K × Totals E → K × Sums A → Type 0
-  IsNew entries e n = (n.0 ≡ e.0) × ((h : Held A) → lookup (eq e.0) entries ≡ Some h → TakesSums same rules h.read h.sums e.1 (Some n.1))
-
-  -- the new sums of each key that a candidate touches, in the order of its plan
-  pub record AreNew (entries : List (K × Held A)) (plan : List (K × Totals E)) (next : List (K × Sums A)) : Type 0 where
-    pub all : length next ≡ length plan
-    pub each : StandTogether (IsNew entries) plan next
-
-  -- some key of the plan doesn't settle with the candidate
-  abbrev pub HasRefusedKey : List (K × Held A) → List (K × Totals E) → Type 0
-  HasRefusedKey entries plan = (e : K × Totals E) × (h : Held A) × (lookup (eq e.0) plan ≡ Some e.1) × (lookup (eq e.0) entries ≡ Some h) × TakesSums same rules h.read h.sums e.1 None
-
--- a key's entry with new sums
-abbrev pub with_sums : {A : Type 0} → Sums A → Held A → Held A
-with_sums sums h = record h { sums = sums }
-
--- an entry after new sums, if there are any, are written
-abbrev pub rewritten : {A : Type 0} → Option (Sums A) → Option (Held A) → Option (Held A)
-rewritten None h = h
-rewritten (Some sums) h = option_map (with_sums sums) h
-
-module _ {A K : Type 0} (eq : K → K → Bool) where
-  -- each entry that has new sums has them, and the keys stay
-  pub record AreWritten (next : List (K × Sums A)) (old new : List (K × Held A)) : Type 0 where
-    pub keys : keys_of new ≡ keys_of old
-    pub each : (q : K) → lookup (eq q) new ≡ rewritten (lookup (eq q) next) (lookup (eq q) old)
 
 module _ {T K E : Type 0} (settled : List (K × Change E) → Type 0) (changes_of : T → List (K × Change E)) where
   -- the touches taken in the end, by the verdicts

@@ -1,7 +1,7 @@
 -- What a candidate does to the sums of a key.
-use Rattle.std.specs.Prelude.{◌≡◌, ◌+◌, ◌++◌, Bool, Option, Some, MatchOption, unwrap_or}
+use Rattle.std.specs.Prelude.{◌≡◌, ◌+◌, ◌++◌, Bool, Option, Some, unwrap_or}
 use Rattle.ledger_transfers.specs.Rules.{Rules, SameOutcome}
-use Rattle.ledger_transfers.specs.Settling.{folded, opened, Settles}
+use Rattle.ledger_transfers.specs.Settling.{folded, opened}
 use Rattle.ledger_transfers.specs.declared.totals.Totals.{Totals}
 use Rattle.ledger_transfers.specs.declared.held.Sums.{Sums}
 
@@ -20,9 +20,3 @@ module _ {A E : Type 0} (same : A → A → Bool) (rules : Rules A E) where
     pub debits : sums.debits ≡ total.debits
     pub credits : sums.credits ≡ total.credits
     pub account : SameOutcome same (Some (kept rules read sums)) (folded rules (opened rules read) total.effects)
-
-  -- what a candidate leaves of a key: nothing where the key doesn't settle with it, and else its new sums
-  abbrev pub TakesSums : Option A → Sums A → Totals E → Option (Sums A) → Type 0
-  TakesSums read sums total next = (taken : Totals E) → IsHeld read sums taken
-      → MatchOption next (Settles rules (opened rules read) (merged taken total) → ⊥)
-      (λ now. Settles rules (opened rules read) (merged taken total) × IsHeld read now (merged taken total))

@@ -24,6 +24,7 @@ mod forecast;
 mod held;
 mod plan;
 mod register;
+mod revise;
 mod seeded;
 mod selection;
 mod sequenced;
@@ -32,6 +33,7 @@ mod slot;
 mod taken;
 mod totals;
 mod transfer;
+mod tried;
 
 pub use account::Account;
 pub use balance::{Balance, NoEffect};

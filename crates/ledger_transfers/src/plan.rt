@@ -68,7 +68,7 @@ fn add_touch<K: Copy + Eq + Hash, E: Copy>(
 }
 
 /// What the touches do to each key.
-pub(crate) fn gather<K: Copy + Eq + Hash, E: Copy>(
+fn gather<K: Copy + Eq + Hash, E: Copy>(
     alloc: Global,
     seed: u64,
     all: &[(K, Change<E>)],

@@ -11,7 +11,7 @@ use ledger_codec::OutOfMemory;
 use std::alloc::Global;
 
 /// Applies the effects in order, up to the first that is refused.
-pub(crate) fn apply_all<A: Account>(account: &mut A, effects: &[A::Effect]) -> bool
+fn apply_all<A: Account>(account: &mut A, effects: &[A::Effect]) -> bool
     ensures { SameOutcome A.eq (if result then Some account.new else None) (folded A.rules account.old effects.now) }
 {
     for effect in effects {

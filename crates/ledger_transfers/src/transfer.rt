@@ -42,17 +42,17 @@ pub fn touches_of<T: Transfer>(
     Ok(all)
 }
 
-/// The touches of one transfer.
-pub(crate) fn touches_of_one<T: Transfer>(
-    alloc: Global,
+/// Fills `out` with the touches of one transfer, in place of what it held. After a refusal it may hold some of them.
+pub(crate) fn touches_into<T: Transfer>(
     transfer: &T,
-) -> Result<Vec<(T::Key, Change<<T::Account as Account>::Effect>)>, OutOfMemory>
-    ensures { IfOk result (λ out. out.items ≡ touches T.changes_of (transfer.now ∷ [])) }
+    out: &mut Vec<(T::Key, Change<<T::Account as Account>::Effect>)>,
+) -> Result<(), OutOfMemory>
+    ensures { OnOk result (out.new.items ≡ touches T.changes_of (transfer.now ∷ [])) }
 {
-    let mut all = Vec::new(alloc);
-    transfer.changes(&mut all)?;
-    drop_empty(&mut all);
-    Ok(all)
+    out.clear();
+    transfer.changes(out)?;
+    drop_empty(out);
+    Ok(())
 }
 
 /// Takes out the empty changes.
