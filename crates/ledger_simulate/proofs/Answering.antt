@@ -1,6 +1,7 @@
 -- What checks answered, said of more.
-use Rattle.std.proofs.Common.{◌≡◌, ◌<◌, ◌⊎◌, inl, inr, ◌++◌, ℕ, Bool, List, [], ◌∷◌, MatchOption, Option, Some, None, Contains, IfErr, Result, Ok, Err, length, get_or, refl, sym, ap, ◌∙◌, subst}
+use Rattle.std.proofs.Common.{◌≡◌, ◌<◌, ◌⊎◌, inl, inr, ◌++◌, ℕ, Bool, List, [], ◌∷◌, MatchOption, Option, Some, None, Contains, IfErr, Result, Ok, Err, drop, length, get_or, refl, sym, ap, ◌∙◌, subst}
 use Rattle.std.proofs.lemmas.List.{append_assoc, append-nil}
+use Rattle.std.proofs.Math.Seq.{drop-append_seam}
 use Rattle.std.proofs.lemmas.List.Elements.{Contains-get_or}
 use Rattle.simulate_parts.specs.Seats.{active_views}
 use Rattle.simulate_parts.specs.Tracker.{observe_fault, tracker_of}
@@ -14,6 +15,8 @@ use Rattle.simulate_parts.specs.declared.tracker.FinalizationUpdate.{Finalizatio
 use Rattle.simulate_parts.specs.declared.tracker.ObserveFault.{ObserveFault}
 use Rattle.ledger_simulate.specs.Answering.{Answered, Beholds, Ends, EndsAt, Fails, IsComplaint, IsFailure, IsObjection, Objects, Sees, StopAnswered}
 use Rattle.ledger_simulate.specs.Causes.{Skips}
+use Rattle.ledger_simulate.specs.Delays.{started_by, started_where}
+use Rattle.ledger_simulate.specs.declared.reports.Reached.{Reached}
 use Rattle.ledger_simulate.specs.Handling.{Disturbs, Handles, told_by, told_first}
 use Rattle.ledger_simulate.specs.Plans.{target_count}
 use Rattle.ledger_simulate.specs.Queue.{AgendaView, QueueView, empty_agenda}
@@ -138,11 +141,15 @@ pub left_more : (done left rest all : List FinalizationUpdate) (update : Finaliz
 left_more done left rest all update whole first = append_assoc done (update ∷ []) rest ∙ ap (λ us. done ++ us) (sym first) ∙ whole
 
 -- a run whose first event was handled and whose exit condition was met
-pub ends_of : {D E S C : Type 0} (peer_of : E → Peer) (journal : Option (E → List (StepEvent × StepOut))) (reports : Option (FinalizationUpdate → Bool)) (verdict : C → TrackerView → List StateView → ℕ → Result Bool (List ℕ)) (condition : Option C) (required : ℕ) (participants : List Peer) (crashes : List Crash) (queue left : QueueView) (entry : (ℕ × ℕ) × Event) (start made : AgendaView) (us vs done more : List FinalizationUpdate) (u w : World D E S) (states : List StateView) → queue ≡ record left { entries = entry ∷ left.entries } → start ≡ empty_agenda left.next → Handles peer_of journal reports entry.0 entry.1 start made us vs u w → vs ≡ us ++ done → EndsAt verdict condition required (target_count participants crashes w.exercise.delayed_started) vs more states → Ends peer_of journal reports verdict condition required participants crashes queue us u (done ++ more) states
-ends_of peer_of journal reports verdict condition required participants crashes queue left entry start made us vs done more u w states taken nothing handled since over =
-    let same : vs ≡ us ++ (done ++ more) = since ∙ ap (λ xs. us ++ xs) (sym (append-nil done) ∙ ap (λ xs. done ++ xs) (sym over.none)) in
+pub ends_of : {D E S C : Type 0} (peer_of : E → Peer) (journal : Option (E → List (StepEvent × StepOut))) (reports : Option (FinalizationUpdate → Bool)) (verdict : C → TrackerView → List StateView → ℕ → Result Bool (List ℕ)) (condition : Option C) (required : ℕ) (participants : List Peer) (crashes : List Crash) (queue left : QueueView) (entry : (ℕ × ℕ) × Event) (start made : AgendaView) (us vs done more : List FinalizationUpdate) (u w : World D E S) (states : List StateView) (reached : Reached) → queue ≡ record left { entries = entry ∷ left.entries } → start ≡ empty_agenda left.next → Handles peer_of journal reports entry.0 entry.1 start made us vs u w → IsReached verdict condition required (target_count participants crashes w.exercise.delayed_started) vs reached → w.exercise.delayed_started ≡ started_by participants crashes us u.exercise.delayed_started (drop (length us) vs) (Some reached) → vs ≡ us ++ done → EndsAt reached.states.items more states → Ends peer_of journal reports verdict condition required participants crashes queue us u (done ++ more) states
+ends_of peer_of journal reports verdict condition required participants crashes queue left entry start made us vs done more u w states reached taken nothing handled met started since over =
+    let whole : done ≡ done ++ more = sym (append-nil done) ∙ ap (λ xs. done ++ xs) (sym over.0) in
+    let same : vs ≡ us ++ (done ++ more) = since ∙ ap (λ xs. us ++ xs) whole in
+    let newer : drop (length us) vs ≡ done ++ more = ap (drop (length us)) same ∙ drop-append_seam us (done ++ more) in
     let begun : Handles peer_of journal reports entry.0 entry.1 (empty_agenda queue.next) made us vs u w =
     subst (λ a. Handles peer_of journal reports entry.0 entry.1 a made us vs u w) (agenda_begun queue left entry start taken nothing) handled in
+    let counted : w.exercise.delayed_started ≡ started_where participants crashes us u.exercise.delayed_started reached.count (done ++ more) =
+    started ∙ ap (started_where participants crashes us u.exercise.delayed_started reached.count) newer in
     record {
       entry = entry;
       rest = left.entries;
@@ -150,9 +157,10 @@ ends_of peer_of journal reports verdict condition required participants crashes 
       made = made;
       after = w;
       handles = subst (λ xs. Handles peer_of journal reports entry.0 entry.1 (empty_agenda queue.next) made us xs u w) same begun;
-      reached = over.reached;
-      met = subst (λ xs. IsReached verdict condition required (target_count participants crashes w.exercise.delayed_started) xs over.reached) same over.met;
-      are = over.are;
+      reached = reached;
+      met = subst (λ b. IsReached verdict condition required (target_count participants crashes b) (us ++ (done ++ more)) reached) counted
+          (subst (λ xs. IsReached verdict condition required (target_count participants crashes w.exercise.delayed_started) xs reached) same met);
+      are = over.1;
     }
 
 module _ {F P C : Type 0} (fname : F → List ℕ) (fsays : F → List StateView → Option (List ℕ)) (pname : P → List ℕ) (psays : P → TrackerView → List StateView → Option (List ℕ)) (cname : C → List ℕ) (csays : C → TrackerView → List StateView → ℕ → Result Bool (List ℕ)) (checks : List F) (properties : List P) (condition : Option C) (seen : List FinalizationUpdate → List StateView → Type 0) (asked : List FinalizationUpdate → List StateView → ℕ → Type 0) (ended : List FinalizationUpdate → List StateView → Type 0) where

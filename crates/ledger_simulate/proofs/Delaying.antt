@@ -1,5 +1,5 @@
 -- When the delayed participants are started, said of more.
-use Rattle.std.proofs.Common.{◌≡◌, ◌≢◌, ◌+◌, ◌-◌, ◌||◌, ◌++◌, ℕ, Bool, true, false, All, Contains, List, [], ◌∷◌, MatchOption, Option, Some, None, get_or, length, option_map, take, unwrap_or, refl, sym, ap, ◌∙◌, arith, length-append}
+use Rattle.std.proofs.Common.{◌≡◌, ◌≢◌, ◌+◌, ◌-◌, ◌||◌, ◌++◌, ℕ, Bool, true, false, All, Contains, List, [], ◌∷◌, IfOk, IfSome, MatchOption, OnOk, Option, Some, None, Result, Ok, Err, ◌≤◌, drop, get_or, length, option_map, subst, take, unwrap_or, refl, sym, ap, ◌∙◌, arith, length-append}
 use Rattle.std.specs.List.{list_any}
 use Rattle.std.specs.Ordering.{is_ge}
 use Rattle.std.specs.declared.cmp.Ordering.{Ordering}
@@ -7,14 +7,16 @@ use Rattle.std.specs.declared.cmp.Ordering.TheVariants.{Equal, Greater, Less}
 use Rattle.std.specs.Cmp.{IsTotalOrder}
 use Rattle.std.proofs.lemmas.Cmp.{nat_cmp_total, on_total, then_total}
 use Rattle.std.proofs.lemmas.List.Folds.{list_any_at, list_any_none}
-use Rattle.std.proofs.lemmas.List.{append_assoc}
+use Rattle.std.proofs.lemmas.List.{append_assoc, take-append-le}
+use Rattle.std.proofs.Math.Seq.{drop-append_seam, drop-length, take-nil}
 use Rattle.simulate_parts.specs.Tracker.{round_cmp, tracker_of}
 use Rattle.simulate_parts.specs.declared.peer.Peer.{Peer}
 use Rattle.simulate_parts.specs.declared.peer.Round.{Round}
 use Rattle.simulate_parts.specs.declared.schedule.Crash.{Crash}
 use Rattle.simulate_parts.specs.declared.tracker.FinalizationUpdate.{FinalizationUpdate}
-use Rattle.ledger_simulate.specs.Delays.{reaches, started_after, starts, target_at}
+use Rattle.ledger_simulate.specs.Delays.{reaches, started_after, started_by, starts, target_at}
 use Rattle.ledger_simulate.specs.Plans.{target_count}
+use Rattle.ledger_simulate.specs.declared.reports.Reached.{Reached}
 
 -- as many of these as the first list has
 front : (xs ys : List FinalizationUpdate) (n : ℕ) → n ≡ length xs → take n (xs ++ ys) ≡ xs
@@ -58,6 +60,30 @@ any_reached (Some due) rounds (Some r) top = by (is_ge (round_cmp r due)) refl
         (λ k d l. below (get_or rounds k d) r due (top.1 k d l) is)
         ∙ sym is
 
+-- a fact of a value that is there
+pub some_map : {X : Type 0} {P Q : X → Type 0} (o : Option X) → ((x : X) → P x → Q x) → IfSome o P → IfSome o Q
+some_map None f h = tt
+some_map (Some x) f h = f x h
+
+-- a fact of this value
+pub some_is : {X : Type 0} (P : X → Type 0) (o : Option X) (x : X) → o ≡ Some x → IfSome o P → P x
+some_is P o x is h = subst (λ p. IfSome p P) is h
+
+-- a fact of an answer that is Ok, beside another one
+pub if_ok_with : {A E X : Type 0} {P Q : A → Type 0} (r : Result A E) → (X → (a : A) → P a → Q a) → OnOk r X → IfOk r P → IfOk r Q
+if_ok_with (Ok a) f x h = f x a h
+if_ok_with (Err e) f x h = tt
+
+-- a fact of every value
+pub if_ok_any : {A E : Type 0} {Q : A → Type 0} (r : Result A E) → ((a : A) → Q a) → IfOk r Q
+if_ok_any (Ok a) f = f a
+if_ok_any (Err e) f = tt
+
+-- a fact of every value, where another answer was Ok
+pub if_ok_of : {A B E F X : Type 0} {Q : A → Type 0} (r : Result A E) (done : Result B F) (b : B) → (X → (a : A) → Q a) → OnOk r (done ≡ Ok b) → OnOk done X → IfOk r Q
+if_ok_of {X} (Ok a) done b f same fact = f (subst (λ d. OnOk d X) same fact) a
+if_ok_of (Err e) done b f same fact = tt
+
 module _ (participants : List Peer) (crashes : List Crash) where
   -- one report more
   pub started_more : (before done : List FinalizationUpdate) (started : Bool) (u : FinalizationUpdate) → started_after participants crashes before started (done ++ u ∷ []) ≡ (started_after participants crashes before started done || starts participants crashes (tracker_of (before ++ (done ++ u ∷ []))))
@@ -65,6 +91,45 @@ module _ (participants : List Peer) (crashes : List Crash) where
   started_more before (x ∷ xs) started u =
       started_more (before ++ x ∷ []) xs (started || starts participants crashes (tracker_of (before ++ x ∷ []))) u
       ∙ ap (λ us. started_after participants crashes (before ++ x ∷ []) (started || starts participants crashes (tracker_of (before ++ x ∷ []))) xs || starts participants crashes (tracker_of us)) (append_assoc before (x ∷ []) (xs ++ u ∷ []))
+
+  -- one report more, once the exit condition may have been met
+  pub started_step : (before done now_reports new_reports : List FinalizationUpdate) (started now new : Bool) (prior next : Option Reached) (u : FinalizationUpdate) → now_reports ≡ before ++ done → new_reports ≡ now_reports ++ u ∷ [] → now ≡ started_by participants crashes before started done prior → IfSome prior (λ r. r.count ≤ length now_reports) → (next ≡ None → (prior ≡ None) × (new ≡ (now || starts participants crashes (tracker_of new_reports)))) → IfSome next (λ r. (new ≡ now) × MatchOption prior (r.count ≡ length new_reports) (λ q. r.count ≡ q.count)) → new ≡ started_by participants crashes before started (done ++ u ∷ []) next
+  started_step before done now_reports new_reports started now new prior None u since grown is within none met =
+      let p = none refl in
+      p.1
+      ∙ ap (λ b. b || starts participants crashes (tracker_of new_reports)) (is ∙ ap (started_by participants crashes before started done) p.0)
+      ∙ ap (λ us. started_after participants crashes before started done || starts participants crashes (tracker_of us)) (grown ∙ ap (λ us. us ++ u ∷ []) since ∙ append_assoc before done (u ∷ []))
+      ∙ sym (started_more before done started u)
+  started_step before done now_reports new_reports started now new None (Some r) u since grown is within none met =
+      let all : length now_reports ≡ length before + length done = ap length since ∙ length-append before done in
+      let long : length new_reports ≡ length now_reports + 1 = ap length grown ∙ length-append now_reports (u ∷ []) in
+      let at : r.count ≡ length new_reports = met.1 in
+      met.0 ∙ is ∙ ap (started_after participants crashes before started) (sym (front done (u ∷ []) (r.count - length before - 1) (omega arith)))
+  started_step before done now_reports new_reports started now new (Some q) (Some r) u since grown is within none met =
+      let all : length now_reports ≡ length before + length done = ap length since ∙ length-append before done in
+      let same : r.count ≡ q.count = met.1 in
+      let inside : q.count ≤ length now_reports = within in
+      met.0
+      ∙ is
+      ∙ ap (started_after participants crashes before started)
+      (sym (ap (λ n. take (n - length before - 1) (done ++ u ∷ [])) same ∙ take-append-le (q.count - length before - 1) done (u ∷ []) (omega arith)))
+
+  -- no report is new
+  pub started_rests : (before after : List FinalizationUpdate) (started now : Bool) (o : Option Reached) → after ≡ before → now ≡ started → now ≡ started_by participants crashes before started (drop (length before) after) o
+  started_rests before after started now o same kept =
+      let none : drop (length before) after ≡ [] = ap (drop (length before)) same ∙ drop-length before in
+      kept ∙ sym (ap (λ us. started_by participants crashes before started us o) none ∙ of_none o)
+    where
+      of_none : (o : Option Reached) → started_by participants crashes before started [] o ≡ started
+      of_none None = refl
+      of_none (Some r) = ap (started_after participants crashes before started) (take-nil (r.count - length before - 1))
+
+  -- these reports are new
+  pub started_turns : (before after more : List FinalizationUpdate) (started mid now : Bool) (o : Option Reached) → after ≡ before ++ more → mid ≡ started → now ≡ started_by participants crashes before mid more o → now ≡ started_by participants crashes before started (drop (length before) after) o
+  started_turns before after more started mid now o grown kept is =
+      is
+      ∙ ap (λ b. started_by participants crashes before b more o) kept
+      ∙ ap (λ us. started_by participants crashes before started us o) (sym (ap (drop (length before)) grown ∙ drop-append_seam before more))
 
   -- the target at one report more
   pub target_more : (before done more : List FinalizationUpdate) (started now : Bool) (u : FinalizationUpdate) (n : ℕ) → now ≡ started_after participants crashes before started done → more ≡ u ∷ [] → n ≡ target_count participants crashes now → n ≡ target_at participants crashes before started (done ++ more)

@@ -10,7 +10,7 @@ use Rattle.simulate_parts.specs.declared.engine.StepOut.{StepOut}
 use Rattle.simulate_parts.specs.declared.peer.Peer.{Peer}
 use Rattle.simulate_parts.specs.declared.schedule.Crash.{Crash}
 use Rattle.simulate_parts.specs.declared.tracker.FinalizationUpdate.{FinalizationUpdate}
-use Rattle.ledger_simulate.specs.Delays.{target_at}
+use Rattle.ledger_simulate.specs.Delays.{started_where, target_at}
 use Rattle.ledger_simulate.specs.Handling.{Disturbs, Gives, Handles, birth_at}
 use Rattle.ledger_simulate.specs.Plans.{target_count}
 use Rattle.ledger_simulate.specs.Queue.{AgendaView, QueueView, empty_agenda}
@@ -58,12 +58,9 @@ abbrev pub Asks : {D E S : Type 0} → (E → Peer) → Option (E → List (Step
 Asks peer_of journal reports height shown told participants crashes before a u more states target =
     Beholds peer_of journal reports height shown told a u more states × (target ≡ target_at participants crashes before u.exercise.delayed_started more)
 
--- no report more, and the exit condition answered true on these states, after a first part of these reports
-pub record EndsAt {C : Type 0} (verdict : C → TrackerView → List StateView → ℕ → Result Bool (List ℕ)) (condition : Option C) (required target : ℕ) (updates more : List FinalizationUpdate) (states : List StateView) : Type 0 where
-  pub none : more ≡ []
-  pub reached : Reached
-  pub met : IsReached verdict condition required target updates reached
-  pub are : states ≡ reached.states.items
+-- no report more, and these states
+abbrev pub EndsAt : List StateView → List FinalizationUpdate → List StateView → Type 0
+EndsAt reached more states = (more ≡ []) × (states ≡ reached)
 
 -- the first event was handled, with these reports more, and the exit condition answered true on these states
 pub record Ends {D E S C : Type 0} (peer_of : E → Peer) (journal : Option (E → List (StepEvent × StepOut))) (reports : Option (FinalizationUpdate → Bool)) (verdict : C → TrackerView → List StateView → ℕ → Result Bool (List ℕ)) (condition : Option C) (required : ℕ) (participants : List Peer) (crashes : List Crash) (queue : QueueView) (before : List FinalizationUpdate) (u : World D E S) (more : List FinalizationUpdate) (states : List StateView) : Type 0 where
@@ -74,7 +71,7 @@ pub record Ends {D E S C : Type 0} (peer_of : E → Peer) (journal : Option (E �
   pub after : World D E S
   pub handles : Handles peer_of journal reports entry.0 entry.1 (empty_agenda queue.next) made before (before ++ more) u after
   pub reached : Reached
-  pub met : IsReached verdict condition required (target_count participants crashes after.exercise.delayed_started) (before ++ more) reached
+  pub met : IsReached verdict condition required (target_count participants crashes (started_where participants crashes before u.exercise.delayed_started reached.count more)) (before ++ more) reached
   pub are : states ≡ reached.states.items
 
 -- one of these checks has this name and complains of the states by this text

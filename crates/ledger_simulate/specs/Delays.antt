@@ -10,6 +10,7 @@ use Rattle.simulate_parts.specs.declared.schedule.Crash.{Crash}
 use Rattle.simulate_parts.specs.declared.schedule.Crash.TheVariants.{Random, DelayRound, ProcessedHeight, Schedule}
 use Rattle.simulate_parts.specs.declared.tracker.FinalizationUpdate.{FinalizationUpdate}
 use Rattle.ledger_simulate.specs.Plans.{delays, late, target_count}
+use Rattle.ledger_simulate.specs.declared.reports.Reached.{Reached}
 
 -- the round at which a failure's participants are started
 abbrev pub delay_of : Crash → Option Round
@@ -39,6 +40,16 @@ abbrev pub started_after : List Peer → List Crash → List FinalizationUpdate 
 started_after participants crashes before started [] = started
 started_after participants crashes before started (u ∷ us) =
     started_after participants crashes (before ++ u ∷ []) (started || starts participants crashes (tracker_of (before ++ u ∷ []))) us
+
+-- whether they are started where the exit condition was met at this report of the run, which is one of these
+abbrev pub started_where : List Peer → List Crash → List FinalizationUpdate → Bool → ℕ → List FinalizationUpdate → Bool
+started_where participants crashes before started count more =
+    started_after participants crashes before started (take (count - length before - 1) more)
+
+-- whether they are started after a step that brought these reports: once the exit condition is met, nobody is
+abbrev pub started_by : List Peer → List Crash → List FinalizationUpdate → Bool → List FinalizationUpdate → Option Reached → Bool
+started_by participants crashes before started more None = started_after participants crashes before started more
+started_by participants crashes before started more (Some reached) = started_where participants crashes before started reached.count more
 
 -- how many participants count where the exit condition is asked after these reports, which is before the last of
 -- them can start the delayed ones

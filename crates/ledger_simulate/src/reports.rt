@@ -1,11 +1,11 @@
 //! What the reports of a step set off.
-ghost use Rattle.std.specs.Prelude.{◌≡◌, ◌++◌, ◌∷◌, ◌||◌, [], Contains, IfErr, IfOk, IfSome, IsTrue, None, OnOk};
+ghost use Rattle.std.specs.Prelude.{◌≡◌, ◌++◌, ◌∷◌, ◌||◌, [], Contains, IfErr, IfOk, IfSome, IsTrue, MatchOption, None, OnOk, length};
 ghost use Rattle.simulate_parts.specs.Engine.{updates_of};
 ghost use Rattle.simulate_parts.specs.Seats.{active_views};
 ghost use Rattle.simulate_parts.specs.Tracker.{tracker_of};
 ghost use Rattle.ledger_simulate.specs.Answering.{IsComplaint, IsFailure, Sees, StopAnswered};
 ghost use Rattle.ledger_simulate.specs.Causes.{StopComes, stops_asked};
-ghost use Rattle.ledger_simulate.specs.Delays.{starts, target_at};
+ghost use Rattle.ledger_simulate.specs.Delays.{started_by, starts, target_at};
 ghost use Rattle.ledger_simulate.specs.Handling.{Disturbs};
 ghost use Rattle.ledger_simulate.specs.Plans.{target_count};
 ghost use Rattle.ledger_simulate.specs.Reaching.{IsReached};
@@ -61,6 +61,7 @@ pub fn ask<D: EngineDefinition>(
     states: Vec<StateView>,
 ) -> Result<Option<Reached>, Stop>
     ensures reached { IfOk result (λ o. IfSome o (λ r. IsReached (λ c. exit_verdict c) plan.now.exit_condition plan.now.required_finalizations (target_count plan.now.participants plan.now.crashes world.now.exercise.delayed_started) watch.now r)) }
+    ensures count { IfOk result (λ o. IfSome o (λ r. r.count ≡ length watch.now)) }
     ensures asked { IfErr result (λ s. IsTrue (stops_asked s)) }
     ensures fails { IfErr result (IsFailure (λ c. exit_name c) (λ c. exit_verdict c) plan.now.exit_condition (tracker_of watch.now) states.items (target_count plan.now.participants plan.now.crashes world.now.exercise.delayed_started)) }
     ensures late { IfErr result (λ s. IsTrue (stops_late s)) }
@@ -99,6 +100,7 @@ fn take_report<D: EngineDefinition>(
     ensures updates { OnOk result (watch.new ≡ watch.old ++ update ∷ []) }
     ensures reached { IfOk result (λ o. IfSome o (λ r. IsReached (λ c. exit_verdict c) plan.now.exit_condition plan.now.required_finalizations (target_count plan.now.participants plan.now.crashes world.new.exercise.delayed_started) watch.new r)) }
     ensures started { IfOk result (λ o. o ≡ None → world.new.exercise.delayed_started ≡ (world.old.exercise.delayed_started || starts plan.now.participants plan.now.crashes (tracker_of watch.new))) }
+    ensures met { IfOk result (λ o. IfSome o (λ r. (world.new.exercise.delayed_started ≡ world.old.exercise.delayed_started) × (r.count ≡ length watch.new))) }
     ensures comes { IfErr result (StopComes plan.now.crashes (λ u. u ≡ update) watch.old) }
     ensures answered { IfErr result (StopAnswered (λ p. finalization_name p) (λ p. finalization_complaint p) (λ p. property_name p) (λ p. property_complaint p) (λ c. exit_name c) (λ c. exit_verdict c) plan.now.finalization_property plan.now.property plan.now.exit_condition (Sees (D.peer_of plan.now.engine) D.State.height_of D.State.bytes_of agenda.old world.old (update ∷ [])) (λ more states target. Sees (D.peer_of plan.now.engine) D.State.height_of D.State.bytes_of agenda.old world.old (update ∷ []) more states × (more ≡ update ∷ []) × (target ≡ target_count plan.now.participants plan.now.crashes world.old.exercise.delayed_started)) (λ more states. ⊥) watch.old) }
     ensures late { IfErr result (λ s. IsTrue (stops_late s)) }
@@ -149,6 +151,7 @@ fn check_and_ask<D: EngineDefinition>(
     watch: &Watch,
 ) -> Result<Option<Reached>, Stop>
     ensures reached { IfOk result (λ o. IfSome o (λ r. IsReached (λ c. exit_verdict c) plan.now.exit_condition plan.now.required_finalizations (target_count plan.now.participants plan.now.crashes world.now.exercise.delayed_started) watch.now r)) }
+    ensures count { IfOk result (λ o. IfSome o (λ r. r.count ≡ length watch.now)) }
     ensures asked { IfErr result (λ s. IsTrue (stops_asked s)) }
     ensures answered { IfErr result (StopAnswered (λ p. finalization_name p) (λ p. finalization_complaint p) (λ p. property_name p) (λ p. property_complaint p) (λ c. exit_name c) (λ c. exit_verdict c) plan.now.finalization_property plan.now.property plan.now.exit_condition (λ more states. (more ≡ []) × (states ≡ active_views D.State.height_of D.State.bytes_of world.now.seats.entries)) (λ more states target. (more ≡ []) × (states ≡ active_views D.State.height_of D.State.bytes_of world.now.seats.entries) × (target ≡ target_count plan.now.participants plan.now.crashes world.now.exercise.delayed_started)) (λ more states. ⊥) watch.now) }
     ensures late { IfErr result (λ s. IsTrue (stops_late s)) }
@@ -196,6 +199,7 @@ fn next_report<D: EngineDefinition>(
     ensures updates { OnOk result (watch.new ≡ watch.old ++ update ∷ []) }
     ensures reached { IfOk result (λ o. IfSome o (λ r. IsReached (λ c. exit_verdict c) plan.now.exit_condition plan.now.required_finalizations (target_count plan.now.participants plan.now.crashes world.new.exercise.delayed_started) watch.new r)) }
     ensures started { IfOk result (λ o. o ≡ None → (reached ≡ None) × (world.new.exercise.delayed_started ≡ (world.old.exercise.delayed_started || starts plan.now.participants plan.now.crashes (tracker_of watch.new)))) }
+    ensures met { IfOk result (λ o. IfSome o (λ r. (world.new.exercise.delayed_started ≡ world.old.exercise.delayed_started) × MatchOption reached (r.count ≡ length watch.new) (λ q. r.count ≡ q.count))) }
     ensures comes { IfErr result (StopComes plan.now.crashes (λ u. u ≡ update) watch.old) }
     ensures answered { IfErr result (StopAnswered (λ p. finalization_name p) (λ p. finalization_complaint p) (λ p. property_name p) (λ p. property_complaint p) (λ c. exit_name c) (λ c. exit_verdict c) plan.now.finalization_property plan.now.property plan.now.exit_condition (Sees (D.peer_of plan.now.engine) D.State.height_of D.State.bytes_of agenda.old world.old (update ∷ [])) (λ more states target. (reached ≡ None) × Sees (D.peer_of plan.now.engine) D.State.height_of D.State.bytes_of agenda.old world.old (update ∷ []) more states × (more ≡ update ∷ []) × (target ≡ target_count plan.now.participants plan.now.crashes world.old.exercise.delayed_started)) (λ more states. ⊥) watch.old) }
     ensures late { IfErr result (λ s. IsTrue (stops_late s)) }
@@ -221,6 +225,7 @@ pub fn take_reports<D: EngineDefinition>(
     ensures disturbs { OnOk result (Disturbs (D.peer_of plan.now.engine) agenda.old agenda.new world.old world.new) }
     ensures updates { OnOk result (watch.new ≡ watch.old ++ updates.items) }
     ensures reached { IfOk result (λ o. IfSome o (λ r. IsReached (λ c. exit_verdict c) plan.now.exit_condition plan.now.required_finalizations (target_count plan.now.participants plan.now.crashes world.new.exercise.delayed_started) watch.new r)) }
+    ensures started { IfOk result (λ o. world.new.exercise.delayed_started ≡ started_by plan.now.participants plan.now.crashes watch.old world.old.exercise.delayed_started updates.items o) }
     ensures comes { IfErr result (StopComes plan.now.crashes (Contains updates.items) watch.old) }
     ensures answered { IfErr result (StopAnswered (λ p. finalization_name p) (λ p. finalization_complaint p) (λ p. property_name p) (λ p. property_complaint p) (λ c. exit_name c) (λ c. exit_verdict c) plan.now.finalization_property plan.now.property plan.now.exit_condition (Sees (D.peer_of plan.now.engine) D.State.height_of D.State.bytes_of agenda.old world.old updates.items) (λ more states target. Sees (D.peer_of plan.now.engine) D.State.height_of D.State.bytes_of agenda.old world.old updates.items more states × (target ≡ target_at plan.now.participants plan.now.crashes watch.old world.old.exercise.delayed_started more)) (λ more states. ⊥) watch.old) }
     ensures late { IfErr result (λ s. IsTrue (stops_late s)) }

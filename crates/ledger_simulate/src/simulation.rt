@@ -1,5 +1,5 @@
 //! A run, one event at a time.
-ghost use Rattle.std.specs.Prelude.{◌≡◌, ◌<◌, ◌+◌, ◌++◌, ◌∷◌, [], Bool, Err, IfErr, IfOk, IfSome, IsTrue, None, Ok, OnOk, Some, false, map};
+ghost use Rattle.std.specs.Prelude.{◌≡◌, ◌<◌, ◌+◌, ◌++◌, ◌∷◌, [], ℕ, Bool, Err, IfErr, IfOk, IfSome, IsTrue, None, Ok, OnOk, Some, drop, false, length, map, take};
 ghost use Rattle.std.specs.List.{flat_map};
 ghost use Rattle.rand_core.specs.Pcg32Seed.{pcg32_seed};
 ghost use Rattle.rand_pcg.specs.Pcg.{pcg32_of_seed};
@@ -10,6 +10,7 @@ ghost use Rattle.simulate_parts.specs.Tracker.{first_fault, tracker_of};
 ghost use Rattle.simulate_parts.specs.declared.engine.StepOut.{StepOut};
 ghost use Rattle.ledger_simulate.specs.Answering.{Answered, Asks, Beholds, Ends, EndsAt, StopAnswered};
 ghost use Rattle.ledger_simulate.specs.Causes.{Comes, EndComes, StopComes, stops_asked};
+ghost use Rattle.ledger_simulate.specs.Delays.{started_after, started_by, started_where};
 ghost use Rattle.ledger_simulate.specs.Handling.{Disturbs, Gives, Grows, Handles, Seated, Stirs, Tells, birth_at, number_after, told_by, told_first};
 ghost use Rattle.ledger_simulate.specs.Links.{changed_links, common_link};
 ghost use Rattle.ledger_simulate.specs.Opening.{actions_of, first_poll, first_tick, opening, starts};
@@ -77,6 +78,7 @@ impl<'a, D: EngineDefinition> Simulation<'a, D> {
         ensures words { IfOk result (λ s. s.world.words ≡ pcg32_of_seed (pcg32_seed 16 seed)) }
         ensures links { IfOk result (λ s. (common_link s.world.links ≡ plan.now.link) × (changed_links s.world.links ≡ [])) }
         ensures queue { IfOk result (λ s. (polls : Bool) × (plan.now.exit_condition ≡ None → polls ≡ false) × (s.queue ≡ queued_all empty_queue 0 (opening plan.now.participants plan.now.crashes polls))) }
+        ensures started { IfOk result (λ s. s.world.exercise.delayed_started ≡ false) }
         ensures seated { IfOk result (λ s. Seated (D.peer_of plan.now.engine) s.queue.next s.world.seats.entries) }
     {
         let mut world = World::new(alloc, plan, Pcg32::seed_from_u64(seed))?;
@@ -129,8 +131,10 @@ impl<'a, D: EngineDefinition> Simulation<'a, D> {
         ensures answered { (e : EndedView) → early_fault (first_key self.entry.queue) self.entry.handled self.entry.plan.now.max_events self.entry.plan.now.timeout ≡ None → result ≡ Err (SimEnd.Fault e) → Answered (λ p. finalization_name p) (λ p. finalization_complaint p) (λ p. property_name p) (λ p. property_complaint p) (λ c. exit_name c) (λ c. exit_verdict c) self.entry.plan.now.finalization_property self.entry.plan.now.property self.entry.plan.now.exit_condition (Beholds (D.peer_of self.entry.plan.now.engine) (D.journal self.entry.plan.now.engine) (D.reports self.entry.plan.now.engine) D.State.height_of D.State.bytes_of (told_first self.entry.queue) (empty_agenda self.entry.queue.next) self.entry.world) (Asks (D.peer_of self.entry.plan.now.engine) (D.journal self.entry.plan.now.engine) (D.reports self.entry.plan.now.engine) D.State.height_of D.State.bytes_of (told_first self.entry.queue) self.entry.plan.now.participants self.entry.plan.now.crashes self.entry.watch (empty_agenda self.entry.queue.next) self.entry.world) (Ends (D.peer_of self.entry.plan.now.engine) (D.journal self.entry.plan.now.engine) (D.reports self.entry.plan.now.engine) (λ c. exit_verdict c) self.entry.plan.now.exit_condition self.entry.plan.now.required_finalizations self.entry.plan.now.participants self.entry.plan.now.crashes self.entry.queue self.entry.watch self.entry.world) self.entry.watch e.fault }
         ensures ended { (e : EndedView) → result ≡ Err (SimEnd.Fault e) → (e.seed ≡ self.entry.seed) × (e.max_events ≡ self.entry.plan.now.max_events) × (e.timeout ≡ self.entry.plan.now.timeout) }
         ensures on { (next : _) → result ≡ Ok (Stepped.On next) → Proceeds (D.peer_of self.entry.plan.now.engine) (D.journal self.entry.plan.now.engine) (D.reports self.entry.plan.now.engine) self.entry.queue next.queue self.entry.watch next.watch self.entry.world next.world × (next.handled ≡ self.entry.handled + 1) × (self.entry.handled < self.entry.plan.now.max_events) × (next.seed ≡ self.entry.seed) × (next.plan ≡ self.entry.plan) }
+        ensures started { (next : _) → result ≡ Ok (Stepped.On next) → next.world.exercise.delayed_started ≡ started_after self.entry.plan.now.participants self.entry.plan.now.crashes self.entry.watch self.entry.world.exercise.delayed_started (drop (length self.entry.watch) next.watch) }
         ensures done { (r : ResultView) → result ≡ Ok (Stepped.Done r) → Extends self.entry.watch r.updates × (r.handled ≡ self.entry.handled + 1) × (r.seed ≡ self.entry.seed) × (r.max_events ≡ self.entry.plan.now.max_events) × (r.timeout ≡ self.entry.plan.now.timeout) }
         ensures success { (r : ResultView) → result ≡ Ok (Stepped.Done r) → Succeeds (λ c. exit_verdict c) (λ p. property_complaint p) self.entry.plan.now.participants self.entry.plan.now.crashes self.entry.plan.now.exit_condition self.entry.plan.now.required_finalizations self.entry.plan.now.property r }
+        ensures delayed { (r : ResultView) → result ≡ Ok (Stepped.Done r) → (count : ℕ) × (r.reached ≡ tracker_of (take count r.updates)) × (r.delayed_started ≡ started_where self.entry.plan.now.participants self.entry.plan.now.crashes self.entry.watch self.entry.world.exercise.delayed_started count (drop (length self.entry.watch) r.updates)) }
         ensures reports { (r : ResultView) → result ≡ Ok (Stepped.Done r) → Seated (D.peer_of self.entry.plan.now.engine) self.entry.queue.next self.entry.world.seats.entries → Grows (D.reports self.entry.plan.now.engine) self.entry.watch r.updates }
     {
         let plan = self.plan;
@@ -153,8 +157,10 @@ impl<'a, D: EngineDefinition> Simulation<'a, D> {
         ensures comes { (e : EndedView) → result ≡ Err (SimEnd.Fault e) → Comes self.entry.plan.now.crashes (λ u. Seated (D.peer_of self.entry.plan.now.engine) self.entry.queue.next self.entry.world.seats.entries → Passes (D.reports self.entry.plan.now.engine) u) self.entry.watch e.fault }
         ensures answered { (e : EndedView) → result ≡ Err (SimEnd.Fault e) → Answered (λ p. finalization_name p) (λ p. finalization_complaint p) (λ p. property_name p) (λ p. property_complaint p) (λ c. exit_name c) (λ c. exit_verdict c) self.entry.plan.now.finalization_property self.entry.plan.now.property self.entry.plan.now.exit_condition (Beholds (D.peer_of self.entry.plan.now.engine) (D.journal self.entry.plan.now.engine) (D.reports self.entry.plan.now.engine) D.State.height_of D.State.bytes_of (told_first self.entry.queue) (empty_agenda self.entry.queue.next) self.entry.world) (Asks (D.peer_of self.entry.plan.now.engine) (D.journal self.entry.plan.now.engine) (D.reports self.entry.plan.now.engine) D.State.height_of D.State.bytes_of (told_first self.entry.queue) self.entry.plan.now.participants self.entry.plan.now.crashes self.entry.watch (empty_agenda self.entry.queue.next) self.entry.world) (Ends (D.peer_of self.entry.plan.now.engine) (D.journal self.entry.plan.now.engine) (D.reports self.entry.plan.now.engine) (λ c. exit_verdict c) self.entry.plan.now.exit_condition self.entry.plan.now.required_finalizations self.entry.plan.now.participants self.entry.plan.now.crashes self.entry.queue self.entry.watch self.entry.world) self.entry.watch e.fault }
         ensures on { (next : _) → result ≡ Ok (Stepped.On next) → Proceeds (D.peer_of self.entry.plan.now.engine) (D.journal self.entry.plan.now.engine) (D.reports self.entry.plan.now.engine) self.entry.queue next.queue self.entry.watch next.watch self.entry.world next.world × (next.handled ≡ self.entry.handled + 1) × (next.seed ≡ self.entry.seed) × (next.plan ≡ self.entry.plan) }
+        ensures started { (next : _) → result ≡ Ok (Stepped.On next) → next.world.exercise.delayed_started ≡ started_after self.entry.plan.now.participants self.entry.plan.now.crashes self.entry.watch self.entry.world.exercise.delayed_started (drop (length self.entry.watch) next.watch) }
         ensures done { (r : ResultView) → result ≡ Ok (Stepped.Done r) → Extends self.entry.watch r.updates × (r.handled ≡ self.entry.handled + 1) × (r.seed ≡ self.entry.seed) × (r.max_events ≡ self.entry.plan.now.max_events) × (r.timeout ≡ self.entry.plan.now.timeout) }
         ensures success { (r : ResultView) → result ≡ Ok (Stepped.Done r) → Succeeds (λ c. exit_verdict c) (λ p. property_complaint p) self.entry.plan.now.participants self.entry.plan.now.crashes self.entry.plan.now.exit_condition self.entry.plan.now.required_finalizations self.entry.plan.now.property r }
+        ensures delayed { (r : ResultView) → result ≡ Ok (Stepped.Done r) → (count : ℕ) × (r.reached ≡ tracker_of (take count r.updates)) × (r.delayed_started ≡ started_where self.entry.plan.now.participants self.entry.plan.now.crashes self.entry.watch self.entry.world.exercise.delayed_started count (drop (length self.entry.watch) r.updates)) }
         ensures reports { (r : ResultView) → result ≡ Ok (Stepped.Done r) → Seated (D.peer_of self.entry.plan.now.engine) self.entry.queue.next self.entry.world.seats.entries → Grows (D.reports self.entry.plan.now.engine) self.entry.watch r.updates }
     {
         let plan = self.plan;
@@ -195,9 +201,10 @@ impl<'a, D: EngineDefinition> Simulation<'a, D> {
         requires { IsReached (λ c. exit_verdict c) self.plan.now.exit_condition self.plan.now.required_finalizations (target_count self.plan.now.participants self.plan.now.crashes self.world.exercise.delayed_started) self.watch reached }
         ensures late { (e : EndedView) → result ≡ Err (SimEnd.Fault e) → (IsTrue (is_late e.fault)) × (e.handled ≡ self.entry.handled) × (e.seed ≡ self.entry.seed) × (e.max_events ≡ self.entry.plan.now.max_events) × (e.timeout ≡ self.entry.plan.now.timeout) }
         ensures comes { (e : EndedView) → result ≡ Err (SimEnd.Fault e) → EndComes self.entry.plan.now.crashes e.fault }
-        ensures answered { (e : EndedView) → result ≡ Err (SimEnd.Fault e) → Answered (λ p. finalization_name p) (λ p. finalization_complaint p) (λ p. property_name p) (λ p. property_complaint p) (λ c. exit_name c) (λ c. exit_verdict c) self.entry.plan.now.finalization_property self.entry.plan.now.property self.entry.plan.now.exit_condition (λ more states. ⊥) (λ more states target. ⊥) (EndsAt (λ c. exit_verdict c) self.entry.plan.now.exit_condition self.entry.plan.now.required_finalizations (target_count self.entry.plan.now.participants self.entry.plan.now.crashes self.entry.world.exercise.delayed_started) self.entry.watch) self.entry.watch e.fault }
+        ensures answered { (e : EndedView) → result ≡ Err (SimEnd.Fault e) → Answered (λ p. finalization_name p) (λ p. finalization_complaint p) (λ p. property_name p) (λ p. property_complaint p) (λ c. exit_name c) (λ c. exit_verdict c) self.entry.plan.now.finalization_property self.entry.plan.now.property self.entry.plan.now.exit_condition (λ more states. ⊥) (λ more states target. ⊥) (EndsAt reached.states.items) self.entry.watch e.fault }
         ensures on { (next : _) → result ≡ Ok (Stepped.On next) → ⊥ }
         ensures done { (r : ResultView) → result ≡ Ok (Stepped.Done r) → (r.updates ≡ self.entry.watch) × (r.handled ≡ self.entry.handled) × (r.seed ≡ self.entry.seed) × (r.max_events ≡ self.entry.plan.now.max_events) × (r.timeout ≡ self.entry.plan.now.timeout) }
+        ensures shows { (r : ResultView) → result ≡ Ok (Stepped.Done r) → (r.delayed_started ≡ self.entry.world.exercise.delayed_started) × (r.reached ≡ reached.tracker) }
         ensures success { (r : ResultView) → result ≡ Ok (Stepped.Done r) → Succeeds (λ c. exit_verdict c) (λ p. property_complaint p) self.entry.plan.now.participants self.entry.plan.now.crashes self.entry.plan.now.exit_condition self.entry.plan.now.required_finalizations self.entry.plan.now.property r }
     {
         let plan = self.plan;
@@ -316,6 +323,7 @@ fn open<D: EngineDefinition>(
 ) -> Result<(), OutOfMemory>
     ensures made { OnOk result (agenda.new ≡ record agenda.old { events = agenda.old.events ++ opening plan.now.participants plan.now.crashes polls }) }
     ensures disturbs { OnOk result (Disturbs (D.peer_of plan.now.engine) agenda.old agenda.new world.old world.new) }
+    ensures exercise { OnOk result (world.new.exercise ≡ world.old.exercise) }
 {
     match start_prompt(plan, world, agenda) {
         Ok(()) => {}
@@ -335,6 +343,7 @@ fn start_prompt<D: EngineDefinition>(
 ) -> Result<(), OutOfMemory>
     ensures made { OnOk result (agenda.new ≡ record agenda.old { events = agenda.old.events ++ starts (others (named_late plan.now.crashes) plan.now.participants) }) }
     ensures disturbs { OnOk result (Disturbs (D.peer_of plan.now.engine) agenda.old agenda.new world.old world.new) }
+    ensures exercise { OnOk result (world.new.exercise ≡ world.old.exercise) }
 {
     for pk in plan.participants.as_slice() {
         match start_if_prompt(plan, world, agenda, pk) {
@@ -354,6 +363,7 @@ fn start_if_prompt<D: EngineDefinition>(
 ) -> Result<(), OutOfMemory>
     ensures made { OnOk result (agenda.new ≡ record agenda.old { events = agenda.old.events ++ starts (others (named_late plan.now.crashes) (pk.now ∷ [])) }) }
     ensures disturbs { OnOk result (Disturbs (D.peer_of plan.now.engine) agenda.old agenda.new world.old world.new) }
+    ensures exercise { OnOk result (world.new.exercise ≡ world.old.exercise) }
 {
     if is_among(named_late_by(plan.crashes.as_slice()), pk) {
         return Ok(());
@@ -448,6 +458,7 @@ fn handle<D: EngineDefinition>(
     ensures handled { OnOk result (Handles (D.peer_of plan.now.engine) (D.journal plan.now.engine) (D.reports plan.now.engine) key event agenda.old agenda.new watch.old watch.new world.old world.new) }
     ensures updates { OnOk result (Extends watch.old watch.new) }
     ensures reached { IfOk result (λ o. IfSome o (λ r. IsReached (λ c. exit_verdict c) plan.now.exit_condition plan.now.required_finalizations (target_count plan.now.participants plan.now.crashes world.new.exercise.delayed_started) watch.new r)) }
+    ensures started { IfOk result (λ o. world.new.exercise.delayed_started ≡ started_by plan.now.participants plan.now.crashes watch.old world.old.exercise.delayed_started (drop (length watch.old) watch.new) o) }
     ensures comes { IfErr result (StopComes plan.now.crashes (λ u. Seated (D.peer_of plan.now.engine) (number_after agenda.old) world.old.seats.entries → Passes (D.reports plan.now.engine) u) watch.old) }
     ensures answered { IfErr result (StopAnswered (λ p. finalization_name p) (λ p. finalization_complaint p) (λ p. property_name p) (λ p. property_complaint p) (λ c. exit_name c) (λ c. exit_verdict c) plan.now.finalization_property plan.now.property plan.now.exit_condition (Beholds (D.peer_of plan.now.engine) (D.journal plan.now.engine) (D.reports plan.now.engine) D.State.height_of D.State.bytes_of (told_by key event) agenda.old world.old) (Asks (D.peer_of plan.now.engine) (D.journal plan.now.engine) (D.reports plan.now.engine) D.State.height_of D.State.bytes_of (told_by key event) plan.now.participants plan.now.crashes watch.old agenda.old world.old) (λ more states. ⊥) watch.old) }
     ensures late { IfErr result (λ s. IsTrue (stops_late s)) }
@@ -606,6 +617,7 @@ fn step_at<D: EngineDefinition>(
     ensures told { OnOk result (Tells (D.peer_of plan.now.engine) (D.journal plan.now.engine) (D.reports plan.now.engine) told.pk told.birth told.event agenda.old agenda.new watch.old watch.new world.old world.new) }
     ensures updates { OnOk result (Extends watch.old watch.new) }
     ensures reached { IfOk result (λ o. IfSome o (λ r. IsReached (λ c. exit_verdict c) plan.now.exit_condition plan.now.required_finalizations (target_count plan.now.participants plan.now.crashes world.new.exercise.delayed_started) watch.new r)) }
+    ensures started { IfOk result (λ o. world.new.exercise.delayed_started ≡ started_by plan.now.participants plan.now.crashes watch.old world.old.exercise.delayed_started (drop (length watch.old) watch.new) o) }
     ensures comes { IfErr result (StopComes plan.now.crashes (λ u. Seated (D.peer_of plan.now.engine) (number_after agenda.old) world.old.seats.entries → Passes (D.reports plan.now.engine) u) watch.old) }
     ensures answered { IfErr result (StopAnswered (λ p. finalization_name p) (λ p. finalization_complaint p) (λ p. property_name p) (λ p. property_complaint p) (λ c. exit_name c) (λ c. exit_verdict c) plan.now.finalization_property plan.now.property plan.now.exit_condition (Beholds (D.peer_of plan.now.engine) (D.journal plan.now.engine) (D.reports plan.now.engine) D.State.height_of D.State.bytes_of (Some (told.pk, told.birth, told.event)) agenda.old world.old) (Asks (D.peer_of plan.now.engine) (D.journal plan.now.engine) (D.reports plan.now.engine) D.State.height_of D.State.bytes_of (Some (told.pk, told.birth, told.event)) plan.now.participants plan.now.crashes watch.old agenda.old world.old) (λ more states. ⊥) watch.old) }
     ensures late { IfErr result (λ s. IsTrue (stops_late s)) }

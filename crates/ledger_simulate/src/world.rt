@@ -48,6 +48,7 @@ impl<D: EngineDefinition> World<D> {
     pub fn new(alloc: Global, plan: &Plan<D>, words: Pcg32) -> Result<Self, OutOfMemory>
         ensures seats { IfOk result (λ w. w.seats.entries ≡ []) }
         ensures words { IfOk result (λ w. w.words ≡ words) }
+        ensures started { IfOk result (λ w. w.exercise.delayed_started ≡ false) }
         ensures links { IfOk result (λ w. (common_link w.links ≡ plan.now.link) × (changed_links w.links ≡ [])) }
     {
         Ok(World {
@@ -77,6 +78,7 @@ impl<D: EngineDefinition> World<D> {
     ) -> Result<(), OutOfMemory>
         ensures made { OnOk result (agenda.new ≡ record agenda.old { events = agenda.old.events ++ (0, Started pk) ∷ [] }) }
         ensures disturbs { OnOk result (Disturbs (D.peer_of plan.now.engine) agenda.old agenda.new self.old self.new) }
+        ensures exercise { OnOk result (self.new.exercise ≡ self.old.exercise) }
     {
         let participants = plan.participants.as_slice();
         let start = Start {
@@ -109,7 +111,8 @@ impl<D: EngineDefinition> World<D> {
         agenda: &mut Agenda,
         pk: Peer,
     ) -> Result<(), OutOfMemory>
-        ensures { OnOk result (Disturbs (D.peer_of plan.now.engine) agenda.old agenda.new self.old self.new) }
+        ensures disturbs { OnOk result (Disturbs (D.peer_of plan.now.engine) agenda.old agenda.new self.old self.new) }
+        ensures exercise { OnOk result (self.new.exercise ≡ self.old.exercise) }
     {
         if !is_among(plan.participants.as_slice(), &pk) {
             return Ok(());
@@ -156,7 +159,8 @@ impl<D: EngineDefinition> World<D> {
         agenda: &mut Agenda,
         action: Action,
     ) -> Result<(), OutOfMemory>
-        ensures { OnOk result (Stirs (D.peer_of plan.now.engine) agenda.old agenda.new self.old self.new) }
+        ensures stirs { OnOk result (Stirs (D.peer_of plan.now.engine) agenda.old agenda.new self.old self.new) }
+        ensures started { OnOk result (self.new.exercise.delayed_started ≡ self.old.exercise.delayed_started) }
     {
         self.exercise.count_action();
         match action {
@@ -195,6 +199,7 @@ impl<D: EngineDefinition> World<D> {
     ) -> Result<(), OutOfMemory>
         ensures seats { self.new.seats ≡ self.old.seats }
         ensures rules { self.new.rules ≡ self.old.rules }
+        ensures exercise { self.new.exercise ≡ self.old.exercise }
     {
         let participants = plan.participants.as_slice();
         if from == to || !is_among(participants, &from) || !is_among(participants, &to) {
@@ -210,7 +215,8 @@ impl<D: EngineDefinition> World<D> {
         plan: &Plan<D>,
         agenda: &mut Agenda,
     ) -> Result<(), OutOfMemory>
-        ensures { OnOk result (Stirs (D.peer_of plan.now.engine) agenda.old agenda.new self.old self.new) }
+        ensures stirs { OnOk result (Stirs (D.peer_of plan.now.engine) agenda.old agenda.new self.old self.new) }
+        ensures started { OnOk result (self.new.exercise.delayed_started ≡ self.old.exercise.delayed_started) }
     {
         let Some(random) = random_of(plan.crashes.as_slice()) else {
             return Ok(());
@@ -233,7 +239,8 @@ impl<D: EngineDefinition> World<D> {
         peers: Vec<Peer>,
         downtime: u64,
     ) -> Result<(), OutOfMemory>
-        ensures { OnOk result ((peer_of : _) → Stirs peer_of agenda.old agenda.new self.old self.new) }
+        ensures stirs { OnOk result ((peer_of : _) → Stirs peer_of agenda.old agenda.new self.old self.new) }
+        ensures started { OnOk result (self.new.exercise.delayed_started ≡ self.old.exercise.delayed_started) }
     {
         for pk in peers {
             match self.crash_for(agenda, pk, downtime) {

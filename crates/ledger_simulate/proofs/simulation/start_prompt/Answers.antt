@@ -1,3 +1,4 @@
+use Rattle.std.proofs.Common.{◌∙◌}
 use Rattle.ledger_simulate.specs.Plans.{named_late}
 use Rattle.ledger_simulate.proofs.Beginning.{starts_more}
 use Rattle.ledger_simulate.proofs.Stirring.{disturbs_then}
@@ -11,4 +12,5 @@ loop-pk-preserved g c = record {
   disturbs =
       disturbs_then (g.D.EngineDefinition.peer_of c.args.plan.now.engine) c.args.agenda.now c.loop-pk.agenda c.start_if_prompt.new.agenda c.args.world.now c.loop-pk.world c.start_if_prompt.new.world
       c.loop-pk.invariant.disturbs c.in-Ok.ensures.disturbs;
+  exercise = c.in-Ok.ensures.exercise ∙ c.loop-pk.invariant.exercise;
 }

@@ -9,4 +9,5 @@ abbrev pub invariant-loop-pk : goal.invariant-loop-pk
 invariant-loop-pk g l = record {
   made : l.agenda ≡ record l.initial.agenda { events = l.initial.agenda.events ++ starts (others (named_late l.plan.crashes) (take l.pk-index l.pk-items)) };
   disturbs : Disturbs (g.D.EngineDefinition.peer_of l.plan.engine) l.initial.agenda l.agenda l.initial.world l.world;
+  exercise : l.world.exercise ≡ l.initial.world.exercise;
 }

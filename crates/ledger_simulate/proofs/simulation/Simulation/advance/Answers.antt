@@ -1,11 +1,15 @@
-use Rattle.std.proofs.Common.{[], List, sym, ap, ◌∙◌, subst}
+use Rattle.std.proofs.Common.{[], List, drop, length, take, sym, ap, ◌∙◌, subst}
 use Rattle.simulate_parts.specs.declared.engine.StateView.{StateView}
 use Rattle.simulate_parts.specs.declared.tracker.FinalizationUpdate.{FinalizationUpdate}
 use Rattle.std.proofs.lemmas.List.{append-nil}
 use Rattle.simulate_parts.specs.Engine.{Passes}
 use Rattle.ledger_simulate.specs.Causes.{StopComes}
+use Rattle.ledger_simulate.specs.Delays.{started_after, started_by, started_where}
+use Rattle.simulate_parts.specs.Tracker.{tracker_of}
+use Rattle.ledger_simulate.proofs.Delaying.{some_is}
 use Rattle.ledger_simulate.specs.Handling.{Seated, number_after, told_by, told_first}
 use Rattle.ledger_simulate.specs.Plans.{target_count}
+use Rattle.ledger_simulate.specs.Reaching.{IsReached}
 use Rattle.ledger_simulate.specs.Queue.{empty_agenda}
 use Rattle.ledger_simulate.proofs.Causing.{ends_by, stop_wider}
 use Rattle.ledger_simulate.proofs.Proceeding.{goes_on, grows_by, seated_begun}
@@ -47,12 +51,16 @@ returns-clause-comes g c = λ e h.
 pub returns-in-Ok-Some-clause-answered : goal.returns-in-Ok-Some-clause-answered
 returns-in-Ok-Some-clause-answered g c = λ e h.
     let grown = c.in-Ok-Some.ensures.updates in
-    answered_since (λ x. (goal.FinalizationProperty-dyn g (x.vtable, x.value)).finalization_name x.value) (λ x. (goal.FinalizationProperty-dyn g (x.vtable, x.value)).finalization_complaint x.value) (λ x. (goal.Property-dyn g (x.vtable, x.value)).property_name x.value) (λ x. (goal.Property-dyn g (x.vtable, x.value)).property_complaint x.value) (λ x. (goal.ExitCondition-dyn g (x.vtable, x.value)).exit_name x.value) (λ x. (goal.ExitCondition-dyn g (x.vtable, x.value)).exit_verdict x.value) c.args.self.plan.now.finalization_property c.args.self.plan.now.property c.args.self.plan.now.exit_condition (λ m v. ⊥) (λ m v n. ⊥) (EndsAt (λ x. (goal.ExitCondition-dyn g (x.vtable, x.value)).exit_verdict x.value) c.args.self.plan.now.exit_condition c.args.self.plan.now.required_finalizations (target_count c.args.self.plan.now.participants c.args.self.plan.now.crashes c.handle-outcome.new.world.exercise.delayed_started) c.handle-outcome.new.watch) (Beholds (g.D.EngineDefinition.peer_of c.args.self.plan.now.engine) (g.D.EngineDefinition.journal c.args.self.plan.now.engine) (g.D.EngineDefinition.reports c.args.self.plan.now.engine) g.D.State.ProcessedHeight.height_of g.D.State.ProcessedHeight.bytes_of (told_first c.args.self.queue) (empty_agenda c.args.self.queue.next) c.args.self.world) (Asks (g.D.EngineDefinition.peer_of c.args.self.plan.now.engine) (g.D.EngineDefinition.journal c.args.self.plan.now.engine) (g.D.EngineDefinition.reports c.args.self.plan.now.engine) g.D.State.ProcessedHeight.height_of g.D.State.ProcessedHeight.bytes_of (told_first c.args.self.queue) c.args.self.plan.now.participants c.args.self.plan.now.crashes c.args.self.watch (empty_agenda c.args.self.queue.next) c.args.self.world) (Ends (g.D.EngineDefinition.peer_of c.args.self.plan.now.engine) (g.D.EngineDefinition.journal c.args.self.plan.now.engine) (g.D.EngineDefinition.reports c.args.self.plan.now.engine) (λ x. (goal.ExitCondition-dyn g (x.vtable, x.value)).exit_verdict x.value) c.args.self.plan.now.exit_condition c.args.self.plan.now.required_finalizations c.args.self.plan.now.participants c.args.self.plan.now.crashes c.args.self.queue c.args.self.watch c.args.self.world)
+    answered_since (λ x. (goal.FinalizationProperty-dyn g (x.vtable, x.value)).finalization_name x.value) (λ x. (goal.FinalizationProperty-dyn g (x.vtable, x.value)).finalization_complaint x.value) (λ x. (goal.Property-dyn g (x.vtable, x.value)).property_name x.value) (λ x. (goal.Property-dyn g (x.vtable, x.value)).property_complaint x.value) (λ x. (goal.ExitCondition-dyn g (x.vtable, x.value)).exit_name x.value) (λ x. (goal.ExitCondition-dyn g (x.vtable, x.value)).exit_verdict x.value) c.args.self.plan.now.finalization_property c.args.self.plan.now.property c.args.self.plan.now.exit_condition (λ m v. ⊥) (λ m v n. ⊥) (EndsAt _) (Beholds (g.D.EngineDefinition.peer_of c.args.self.plan.now.engine) (g.D.EngineDefinition.journal c.args.self.plan.now.engine) (g.D.EngineDefinition.reports c.args.self.plan.now.engine) g.D.State.ProcessedHeight.height_of g.D.State.ProcessedHeight.bytes_of (told_first c.args.self.queue) (empty_agenda c.args.self.queue.next) c.args.self.world) (Asks (g.D.EngineDefinition.peer_of c.args.self.plan.now.engine) (g.D.EngineDefinition.journal c.args.self.plan.now.engine) (g.D.EngineDefinition.reports c.args.self.plan.now.engine) g.D.State.ProcessedHeight.height_of g.D.State.ProcessedHeight.bytes_of (told_first c.args.self.queue) c.args.self.plan.now.participants c.args.self.plan.now.crashes c.args.self.watch (empty_agenda c.args.self.queue.next) c.args.self.world) (Ends (g.D.EngineDefinition.peer_of c.args.self.plan.now.engine) (g.D.EngineDefinition.journal c.args.self.plan.now.engine) (g.D.EngineDefinition.reports c.args.self.plan.now.engine) (λ x. (goal.ExitCondition-dyn g (x.vtable, x.value)).exit_verdict x.value) c.args.self.plan.now.exit_condition c.args.self.plan.now.required_finalizations c.args.self.plan.now.participants c.args.self.plan.now.crashes c.args.self.queue c.args.self.watch c.args.self.world)
     c.args.self.watch c.handle-outcome.new.watch grown.added (λ m v never. absurd never) (λ m v n never. absurd never)
     (λ m v is.
     ends_of (g.D.EngineDefinition.peer_of c.args.self.plan.now.engine) (g.D.EngineDefinition.journal c.args.self.plan.now.engine) (g.D.EngineDefinition.reports c.args.self.plan.now.engine) (λ x. (goal.ExitCondition-dyn g (x.vtable, x.value)).exit_verdict x.value) c.args.self.plan.now.exit_condition c.args.self.plan.now.required_finalizations c.args.self.plan.now.participants c.args.self.plan.now.crashes c.args.self.queue c.take.new.self c.in-Some.entry c.new-agenda.result c.handle-outcome.new.agenda
-    c.args.self.watch c.handle-outcome.new.watch grown.added m c.args.self.world c.handle-outcome.new.world v c.in-Some.ensures.taken (c.new-agenda.ensures ∙ ap empty_agenda c.next.ensures)
-    c.in-Ok-Some.ensures.handled grown.is is)
+    c.args.self.watch c.handle-outcome.new.watch grown.added m c.args.self.world c.handle-outcome.new.world v c.in-Ok-Some.reached c.in-Some.ensures.taken (c.new-agenda.ensures ∙ ap empty_agenda c.next.ensures)
+    c.in-Ok-Some.ensures.handled
+    (some_is (λ r. IsReached (λ x. (goal.ExitCondition-dyn g (x.vtable, x.value)).exit_verdict x.value) c.args.self.plan.now.exit_condition c.args.self.plan.now.required_finalizations (target_count c.args.self.plan.now.participants c.args.self.plan.now.crashes c.handle-outcome.new.world.exercise.delayed_started) c.handle-outcome.new.watch r) c.in-Ok-Some.field-0 c.in-Ok-Some.reached c.in-Ok-Some.field-0-is c.in-Ok-Some.ensures.reached)
+    (c.in-Ok-Some.ensures.started
+    ∙ ap (started_by c.args.self.plan.now.participants c.args.self.plan.now.crashes c.args.self.watch c.args.self.world.exercise.delayed_started (drop (length c.args.self.watch) c.handle-outcome.new.watch)) c.in-Ok-Some.field-0-is)
+    grown.is (is.0, is.1 ∙ ap (λ r. r.states.items) c.in-Ok-Some.reached-is))
     grown.is e.fault (c.finish.ensures.answered e h)
 
 pub returns-clause-answered : goal.returns-clause-answered
@@ -65,3 +73,23 @@ returns-clause-answered g c = λ e h.
     begun
     (λ m v n is. (begun m v is.0, is.1))
     (λ m v never. absurd never) (sym (append-nil c.args.self.watch)) c.in-Err.stop c.in-Err.ensures.answered)
+
+pub returns-in-Ok-None-clause-started : goal.returns-in-Ok-None-clause-started
+returns-in-Ok-None-clause-started g c = λ next e.
+    let p = c.go_on.ensures.on next e in
+    ap (λ w. w.exercise.delayed_started) p.2
+    ∙ c.in-Ok-None.ensures.started
+    ∙ ap (started_by c.args.self.plan.now.participants c.args.self.plan.now.crashes c.args.self.watch c.args.self.world.exercise.delayed_started (drop (length c.args.self.watch) c.handle-outcome.new.watch)) c.in-Ok-None.field-0-is
+    ∙ ap (λ us. started_after c.args.self.plan.now.participants c.args.self.plan.now.crashes c.args.self.watch c.args.self.world.exercise.delayed_started (drop (length c.args.self.watch) us)) (sym p.1)
+
+pub returns-in-Ok-Some-clause-delayed : goal.returns-in-Ok-Some-clause-delayed
+returns-in-Ok-Some-clause-delayed g c = λ r e.
+    let met = (some_is (λ r. IsReached (λ x. (goal.ExitCondition-dyn g (x.vtable, x.value)).exit_verdict x.value) c.args.self.plan.now.exit_condition c.args.self.plan.now.required_finalizations (target_count c.args.self.plan.now.participants c.args.self.plan.now.crashes c.handle-outcome.new.world.exercise.delayed_started) c.handle-outcome.new.watch r) c.in-Ok-Some.field-0 c.in-Ok-Some.reached c.in-Ok-Some.field-0-is c.in-Ok-Some.ensures.reached) in
+    let updates = (c.finish.ensures.done r e).0 in
+    let shown = c.finish.ensures.shows r e in (
+      c.in-Ok-Some.reached.count,
+      shown.1 ∙ ap (λ x. x.tracker) c.in-Ok-Some.reached-is ∙ met.tracker ∙ ap (λ us. tracker_of (take c.in-Ok-Some.reached.count us)) (sym updates),
+      shown.0 ∙ (c.in-Ok-Some.ensures.started
+          ∙ ap (started_by c.args.self.plan.now.participants c.args.self.plan.now.crashes c.args.self.watch c.args.self.world.exercise.delayed_started (drop (length c.args.self.watch) c.handle-outcome.new.watch)) c.in-Ok-Some.field-0-is)
+          ∙ ap (λ us. started_where c.args.self.plan.now.participants c.args.self.plan.now.crashes c.args.self.watch c.args.self.world.exercise.delayed_started c.in-Ok-Some.reached.count (drop (length c.args.self.watch) us)) (sym updates),
+    )

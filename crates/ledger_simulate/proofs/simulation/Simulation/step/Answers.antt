@@ -11,3 +11,9 @@ returns-clause-on g c = λ next h. let p = c.advance.ensures.on next h in (p.0, 
 
 pub returns-clause-comes : goal.returns-clause-comes
 returns-clause-comes g c = λ e none h. c.advance.ensures.comes e h
+
+pub returns-clause-started : goal.returns-clause-started
+returns-clause-started g c = λ next h. c.advance.ensures.started next h
+
+pub returns-clause-delayed : goal.returns-clause-delayed
+returns-clause-delayed g c = λ r h. c.advance.ensures.delayed r h

@@ -3,9 +3,9 @@ use Rattle.ledger_simulate.proofs.Stirring.{adds_one, stirs_from, stirs_still, s
 use Rattle.ledger_simulate.specs.declared.event.Event.TheVariants.{CrashTick}
 use Rattle.ledger_simulate.proofs.world.World.crash_at_random.Goals as goal
 
-pub returns-in-Ok-after : goal.returns-in-Ok-after
-returns-in-Ok-after g c =
+pub returns-in-Ok-after-clause-stirs : goal.returns-in-Ok-after-clause-stirs
+returns-in-Ok-after-clause-stirs g c =
     let peer_of = g.D.EngineDefinition.peer_of c.args.plan.now.engine in
     stirs_then peer_of c.args.agenda.now c.crash_all.new.agenda c.after.new.self c.args.self.now c.crash_all.new.self c.crash_all.new.self
-    (stirs_from peer_of c.args.agenda.now c.crash_all.new.agenda c.args.self.now _ c.crash_all.new.self refl refl (c.in-Ok.ensures peer_of))
+    (stirs_from peer_of c.args.agenda.now c.crash_all.new.agenda c.args.self.now _ c.crash_all.new.self refl refl (c.in-Ok.ensures.stirs peer_of))
     (stirs_still peer_of c.crash_all.new.agenda c.after.new.self c.crash_all.new.self c.crash_all.new.self (adds_one c.crash_all.new.agenda c.after.new.self (_, CrashTick) c.in-Ok-after.ensures.ok refl) refl refl)
