@@ -1,34 +1,18 @@
 #!/usr/bin/env python3
-"""What `local` prints for a job, worked out independently of the program: dictionaries, whole replays and
-hashlib. Prints the report or the error line and ends with the status.
+"""What `local` prints for a job, worked out independently of the program: dictionaries, whole replays and the
+rules of docs/FORMATS.md. Prints the report or the error line and ends with the status.
 
     python3 tests/reference.py < JOB
 """
-import hashlib
 import re
 import sys
+
+from rules import be64, commit, root, update
 
 MAX = 2**64 - 1
 NAME = re.compile(rb"[a-z0-9_-]{1,32}\Z")
 HEX = re.compile(rb"0x[0-9a-fA-F]{64}\Z")
 NUMBER = re.compile(rb"(0|[1-9][0-9]*)\Z")
-
-
-def sha(*parts):
-    return hashlib.sha256(b"".join(parts)).digest()
-
-
-def be64(n):
-    return n.to_bytes(8, "big")
-
-
-def varint(n):
-    out = bytearray()
-    while n >= 0x80:
-        out.append(n & 0x7F | 0x80)
-        n >>= 7
-    out.append(n)
-    return bytes(out)
 
 
 def key_of(field):
@@ -98,20 +82,10 @@ def value(account):
 
 def spelling(op):
     if op[0] == "update":
-        return b"\0" + op[1] + value(op[2])
+        return update(op[1], value(op[2]))
     if op[0] == "delete":
         return b"\1" + op[1]
-    return b"\2\0" + varint(op[1])
-
-
-def root(ops):
-    peaks = []
-    for i, op in enumerate(ops):
-        peaks.append((0, sha(b"\0", be64(i), spelling(op))))
-        while len(peaks) > 1 and peaks[-1][0] == peaks[-2][0]:
-            right, left = peaks.pop(), peaks.pop()
-            peaks.append((left[0] + 1, sha(b"\1", left[1], right[1])))
-    return sha(b"\2", be64(len(ops)), *(digest for _, digest in peaks))
+    return commit(op[1])
 
 
 def replay(ops):
@@ -218,7 +192,7 @@ def local(text):
         append(ops, accounts, sums)
     for key, (balance, nonce) in sorted(replay(ops).items()):
         out.append(f"account {key_text(key)} {balance} {nonce}")
-    out += [f"size {len(ops)}", f"root {root(ops).hex()}"]
+    out += [f"size {len(ops)}", f"root {root([spelling(op) for op in ops]).hex()}"]
     return "\n".join(out) + "\n", 0
 
 

@@ -1,69 +1,19 @@
 """Roots, frames and tapes of the worked cases of following a log over a link, worked from docs/FORMATS.md.
 `python3 cases.py` prints the constants of src/tests/vectors.rt."""
-import hashlib
+import pathlib
+import sys
 
-
-def digest(data):
-    return hashlib.sha256(data).digest()
-
-
-def be64(number):
-    return number.to_bytes(8, "big")
-
-
-def varint(number):
-    out = b""
-    while number >= 128:
-        out += bytes([number % 128 + 128])
-        number //= 128
-    return out + bytes([number])
-
-
-def commit(floor):
-    return b"\2\0" + varint(floor)
+sys.path.insert(0, str(pathlib.Path(__file__).resolve().parents[3] / "tests"))
+from rules import answer, be64, commit, frame, heights, leaves_of, node, peaks, root, root_of, varint  # noqa: E402
+from rules import update as written  # noqa: E402
 
 
 def update(key, value):
-    return b"\0" + bytes([key]) * 32 + value
+    return written(bytes([key]) * 32, value)
 
 
 def account(balance, nonce):
     return be64(balance) + be64(nonce) + bytes(16)
-
-
-def leaves_of(ops, start=0):
-    return [digest(b"\0" + be64(start + i) + op) for i, op in enumerate(ops)]
-
-
-def node(left, right):
-    return digest(b"\1" + left + right)
-
-
-def subtree(leaves, height, at):
-    if height == 0:
-        return leaves[at]
-    half = 2 ** (height - 1)
-    return node(subtree(leaves, height - 1, at), subtree(leaves, height - 1, at + half))
-
-
-def heights(size):
-    return [height for height in reversed(range(63)) if size >> height & 1]
-
-
-def peaks(leaves):
-    at, out = 0, []
-    for height in heights(len(leaves)):
-        out.append(subtree(leaves, height, at))
-        at += 2**height
-    return out
-
-
-def root_of(size, nodes):
-    return digest(b"\2" + be64(size) + b"".join(nodes))
-
-
-def root(ops):
-    return root_of(len(ops), peaks(leaves_of(ops)))
 
 
 def pushed(size, nodes, leaf):
@@ -75,40 +25,8 @@ def pushed(size, nodes, leaf):
     return [tree for _, tree in trees]
 
 
-def proof(leaves, start, count):
-    out = []
-
-    def walk(height, at):
-        if at + 2**height <= start or start + count <= at:
-            out.append(subtree(leaves, height, at))
-        elif height > 0:
-            walk(height - 1, at)
-            walk(height - 1, at + 2 ** (height - 1))
-
-    at = 0
-    for height in heights(len(leaves)):
-        walk(height, at)
-        at += 2**height
-    return out
-
-
-def answer(ops, number, start, count, pinned=False):
-    leaves = leaves_of(ops)
-    digests = proof(leaves, start, count)
-    body = b"\1" + be64(number) + varint(len(ops)) + varint(0) + varint(len(digests)) + b"".join(digests)
-    body += varint(count) + b"".join(ops[start : start + count])
-    if not pinned:
-        return body + b"\0"
-    nodes = peaks(leaves[:start])
-    return body + b"\1" + varint(len(nodes)) + b"".join(nodes)
-
-
 def ask(number, end, start, most, pinned):
     return b"\0" + be64(number) + varint(end) + varint(start) + be64(most) + bytes([pinned])
-
-
-def frame(body):
-    return varint(len(body)) + body
 
 
 def asks(end, ranges):

@@ -4,11 +4,11 @@
 The tests of ledger_compact, ledger_activity and ledger_examples compare with them. Each line is a name and the
 whole root in hexadecimal digits.
 """
-import os
+import pathlib
 import sys
 
-sys.path.insert(0, os.path.join(os.path.dirname(os.path.abspath(__file__)), "..", "..", "ledger_merkle", "vectors"))
-from roots import items_root, sha, varint  # noqa: E402
+sys.path.insert(0, str(pathlib.Path(__file__).resolve().parents[3] / "tests"))
+from rules import root, sha, varint  # noqa: E402
 
 ONES = bytes([1]) * 32
 
@@ -55,13 +55,13 @@ def canonical(ops, bits):
     for at in range(0, len(bits), 256):
         part = (bits[at:at + 256] + [0] * 256)[:256]
         chunks.append(bytes(int("".join(map(str, part[i:i + 8])), 2) for i in range(0, 256, 8)))
-    return sha(b"\x03" + items_root(sha, ops) + items_root(sha, chunks))
+    return sha(b"\x03" + root(ops) + root(chunks))
 
 
 if __name__ == "__main__":
     one, two = bytes([1]) * 32, bytes([2]) * 32
-    print("immutable of three", items_root(sha, [commit(1, None, 0), keyed(one, two), commit(1, None, 1)]).hex())
-    print("keyless of three", items_root(sha, [commit(1, None, 0), b"\x00" + one, commit(1, None, 1)]).hex())
+    print("immutable of three", root([commit(1, None, 0), keyed(one, two), commit(1, None, 1)]).hex())
+    print("keyless of three", root([commit(1, None, 0), b"\x00" + one, commit(1, None, 1)]).hex())
 
     # a commit, two updates of one key, a commit
     key, first, second = bytes([7]) * 32, bytes([8]) * 32, bytes([9]) * 32
@@ -72,15 +72,15 @@ if __name__ == "__main__":
     print("canonical of 304", canonical(log[:3] + many + log[3:], [0, 0, 1] + [1] * 300 + [1]).hex())
 
     fresh = [commit(2, None, 0)]
-    print("any 5 12345", items_root(sha, fresh + added(any_tests(5, 12345), 0)).hex())
-    print("any 20 12345", items_root(sha, fresh + added(any_tests(20, 12345), 0)).hex())
-    print("any 50 12345", items_root(sha, fresh + added(any_tests(50, 12345), 0)).hex())
+    print("any 5 12345", root(fresh + added(any_tests(5, 12345), 0)).hex())
+    print("any 20 12345", root(fresh + added(any_tests(20, 12345), 0)).hex())
+    print("any 50 12345", root(fresh + added(any_tests(50, 12345), 0)).hex())
     for family, again in (("immutable", 0), ("keyless", 14)):
         log = [commit(1, None, 0)] + fixed_tests(family, 12, 42, 0)
-        print(family, len(log), items_root(sha, log).hex())
+        print(family, len(log), root(log).hex())
         # the next begin at the floor of immutable, and at the last commit of keyless
         log += fixed_tests(family, 15, 99, again)
-        print(family, len(log), items_root(sha, log).hex())
+        print(family, len(log), root(log).hex())
     log = [commit(1, None, 0)] + fixed_tests("immutable", 10000, 1, 0)
     log += fixed_tests("immutable", 10000, 2, 10000)
-    print("immutable", len(log), items_root(sha, log).hex())
+    print("immutable", len(log), root(log).hex())
