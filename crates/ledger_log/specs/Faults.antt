@@ -18,12 +18,15 @@ batch_refusal size current count (Some floor) =
     (if nat_le (size + count) (2 ^ 62) then None else Some (Full size)))
 
 module _ {Op : Type 0} where
+  -- why these operations, which begin at `start`, are no log
+  abbrev pub ops_refusal : (Op → Option ℕ) → ℕ → List Op → Option LogFault
+  ops_refusal floor_of start ops =
+      if nat_le (start + length ops) (2 ^ 62) then floor_refusal start (start + length ops) (last_floor floor_of ops) else Some Size
+
   -- why these parts are no log, without want of memory
   abbrev pub parts_refusal : (Op → Option ℕ) → LogView Op → Option LogFault
   parts_refusal floor_of log =
-      if nat_eq (length log.pinned) (count_ones log.front) then
-      (if nat_le (log_size log) (2 ^ 62) then floor_refusal log.front (log_size log) (last_floor floor_of log.ops) else Some Size)
-      else Some (Nodes (count_ones log.front))
+      if nat_eq (length log.pinned) (count_ones log.front) then ops_refusal floor_of log.front log.ops else Some (Nodes (count_ones log.front))
 
   -- why this log takes no such batch, without want of memory
   abbrev pub append_refusal : (Op → Option ℕ) → LogView Op → List Op → Option LogFault

@@ -73,9 +73,22 @@ pub(crate) fn index_of<F: Family>(
     ensures { IfOk result (λ index. IsIndex F.write_of index start ops.now) }
 {
     let mut index = BTreeMap::new(alloc);
-    make_room::<F>(&mut index, ops)?;
-    note::<F>(&mut index, ops, start);
+    let mut end = start;
+    for op in ops {
+        end += 1;
+        put_end(&mut index, F::written_key(op), end)?;
+    }
     Ok(index)
+}
+
+/// Gives the key this entry, if there is a key.
+fn put_end(index: &mut Index, key: Option<Key>, end: u64) -> Result<(), OutOfMemory>
+    ensures { OnOk result ((k : Items ℕ) → end_at index.new k ≡ end_where key k end (end_at index.old k)) }
+{
+    if let Some(key) = key {
+        index.insert(key, end)?;
+    }
+    Ok(())
 }
 
 /// Takes out the entries of these operations, which a log with this new front drops, as far as they are

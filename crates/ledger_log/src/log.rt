@@ -1,11 +1,11 @@
 //! The log: its Merkle list, the operations that it retains, and an index of their keys.
-ghost use Rattle.std.specs.Prelude.{◌≡◌, ◌+◌, ◌-◌, ◌<◌, ◌≤◌, ◌^◌, ◌⊎◌, ◌++◌, ◌∷◌, [], None, List as Items, length, map, min, Some, MatchOption, IsOkUnless, IfOk, OnOk, OnErr, IfSome, slice_get, take, drop, count_ones};
+ghost use Rattle.std.specs.Prelude.{◌≡◌, ◌+◌, ◌-◌, ◌<◌, ◌≤◌, ◌^◌, ◌⊎◌, ◌++◌, ◌∷◌, [], None, List as Items, length, map, min, Some, MatchOption, IsOkUnless, IfOk, OnOk, OnErr, IfSome, slice_get, take, drop, count_ones, IsOk};
 ghost use Rattle.std.specs.Int.NonZero.{non_zero_u64_get};
 ghost use Rattle.ledger_merkle.specs.Range.{RangeOk};
 ghost use Rattle.ledger_merkle.specs.Leaves.{ListView, leaves_from, list_size};
 ghost use Rattle.ledger_merkle.specs.Levels.{proof_digests};
 ghost use Rattle.ledger_log.specs.View.{LogView, log_size, log_root, log_list, log_range, log_peaks_at, log_root_at, log_floor, pruned, last_floor, batch_floor, value_at};
-ghost use Rattle.ledger_log.specs.Faults.{parts_refusal, append_refusal, range_refusal, prune_refusal};
+ghost use Rattle.ledger_log.specs.Faults.{parts_refusal, ops_refusal, append_refusal, range_refusal, prune_refusal};
 
 use crate::index::{Index, copy_of, forget, index_of, look_up, make_room, note};
 use crate::{Family, Key, KeyedFamily, LogFault, Value};
@@ -67,18 +67,41 @@ impl<F: Family, H: Hasher> Log<F, H> {
         let Some(list) = MerkleList::<H>::from_parts(alloc, start, pinned) else {
             return Err(LogFault::Nodes { needed });
         };
-        let size = start.get().saturating_add(ops.len() as u64);
-        if size > MAX_LEAVES {
-            return Err(LogFault::Size);
-        }
-        let Some(floor) = floor_of_last::<F>(ops.as_slice()) else {
-            return Err(LogFault::NoCommit);
-        };
-        if floor.get() < start.get() || size <= floor.get() {
-            return Err(LogFault::FloorOutside { floor });
-        }
-        let index = index_of::<F>(alloc, ops.as_slice(), start.get())?;
+        let floor = floor_behind::<F>(start, ops.as_slice())?;
         let list = grown(list, ops.as_slice())?;
+        Ok(Log::with_floor(alloc, list, ops, floor)?)
+    }
+
+    /// The log of these operations, whose leaves `list` holds already: what `from_parts` gives, with nothing
+    /// hashed again. Refused as `from_parts` is.
+    pub fn from_list(
+        alloc: Global,
+        list: MerkleList<H>,
+        ops: Vec<F::Op>,
+    ) -> Result<Log<F, H>, LogFault>
+        requires { list.leaves ≡ leaves_from H.digest list.front (map F.Op.spelling ops.items) }
+        ensures refusal { MatchOption (parts_refusal F.floor_of (record { front = list.front; pinned = list.pinned; ops = ops.items })) (IsOkUnless result LogFault.OutOfMemory) (λ fault. result ≡ Err fault) }
+        ensures ok { IfOk result (λ log. log ≡ record { front = list.front; pinned = list.pinned; ops = ops.items }) }
+    {
+        let floor = floor_behind::<F>(list.front(), ops.as_slice())?;
+        Ok(Log::with_floor(alloc, list, ops, floor)?)
+    }
+
+    /// The log of these operations, whose leaves the list holds, with this last floor.
+    fn with_floor(
+        alloc: Global,
+        list: MerkleList<H>,
+        ops: Vec<F::Op>,
+        floor: Location,
+    ) -> Result<Log<F, H>, OutOfMemory>
+        requires leaves { list.leaves ≡ leaves_from H.digest list.front (map F.Op.spelling ops.items) }
+        requires floor { last_floor F.floor_of ops.items ≡ Some floor }
+        requires least { list.front ≤ floor }
+        requires most { floor < list.front + length ops.items }
+        requires room { list.front + length ops.items ≤ 2 ^ 62 }
+        ensures { IfOk result (λ log. log ≡ record { front = list.front; pinned = list.pinned; ops = ops.items }) }
+    {
+        let index = index_of::<F>(alloc, ops.as_slice(), list.front().get())?;
         Ok(Log {
             alloc,
             list,
@@ -302,6 +325,26 @@ fn floor_of_last<F: Family>(ops: &[F::Op]) -> Option<Location>
 {
     let (last, _) = ops.split_last()?;
     F::commit_floor(last)
+}
+
+/// The floor of the last of these operations, which begin at `start`, where they are a log.
+fn floor_behind<F: Family>(start: Location, ops: &[F::Op]) -> Result<Location, LogFault>
+    ensures refusal { MatchOption (ops_refusal F.floor_of start ops.now) (IsOk result) (λ fault. result ≡ Err fault) }
+    ensures floor { IfOk result (λ f. last_floor F.floor_of ops.now ≡ Some f) }
+    ensures within { IfOk result (λ f. (start ≤ f) × (f < start + length ops.now)) }
+    ensures room { OnOk result (start + length ops.now ≤ 2 ^ 62) }
+{
+    let size = start.get().saturating_add(ops.len() as u64);
+    if size > MAX_LEAVES {
+        return Err(LogFault::Size);
+    }
+    let Some(floor) = floor_of_last::<F>(ops) else {
+        return Err(LogFault::NoCommit);
+    };
+    if floor.get() < start.get() || size <= floor.get() {
+        return Err(LogFault::FloorOutside { floor });
+    }
+    Ok(floor)
 }
 
 /// The floor of the last operation, None where it isn't the one commit.

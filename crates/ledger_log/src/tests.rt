@@ -1,12 +1,14 @@
 //! Worked examples. The expected roots are those of ledger_merkle's vectors/roots.py.
-ghost use Rattle.std.specs.Prelude.{◌≡◌, ◌<◌, ◌≤◌, ◌^◌, IfOk, length};
+ghost use Rattle.std.specs.Prelude.{◌≡◌, ◌<◌, ◌≤◌, ◌^◌, [], IfOk, length, map};
+ghost use Rattle.ledger_merkle.specs.Leaves.{leaves_from};
+ghost use Rattle.ledger_log.specs.Any.{any_spelling};
 ghost use Rattle.ledger_log.specs.View.{log_size};
 
 use crate::{
     AnyFamily, AnyOp, ImmutableFamily, ImmutableOp, KeylessFamily, KeylessOp, Log, LogFault,
 };
 use ledger_codec::Digest;
-use ledger_merkle::{Location, MAX_LEAVES, Sha256Hasher, Toy, check_range};
+use ledger_merkle::{Hasher, Location, MAX_LEAVES, MerkleList, Sha256Hasher, Toy, check_range};
 use std::alloc::Global;
 use std::num::NonZeroU64;
 
@@ -170,6 +172,36 @@ fn keeps_the_last_value_of_a_key(rt: HostRuntime) -> Result<(), LogFault> {
     log.append_batch(&[commit(6)])?;
     log.prune(at(6))?;
     assert_eq!(rt; log.get(&b), None);
+    Ok(())
+}
+
+/// The leaves of these operations from place 0 on.
+fn leaves_of<H: Hasher>(alloc: Global, ops: &[AnyOp]) -> Result<MerkleList<H>, LogFault>
+    ensures { IfOk result (λ list. list ≡ record { front = 0; pinned = []; leaves = leaves_from H.digest 0 (map any_spelling ops.now) }) }
+{
+    let mut list = MerkleList::new(alloc);
+    list.extend(ops)?;
+    Ok(list)
+}
+
+/// What opening a log of these operations on their leaves answers.
+fn opened(alloc: Global, ops: &[AnyOp]) -> Result<AnyLog, LogFault> {
+    let list = leaves_of(alloc, ops)?;
+    Log::from_list(alloc, list, Vec::from_slice(alloc, ops)?)
+}
+
+#[test]
+fn opens_on_the_leaves_of_its_operations(rt: HostRuntime) -> Result<(), LogFault> {
+    let alloc = rt.alloc();
+    let (a, b) = ([1; 32], [2; 32]);
+    let ops = [AnyOp::Update(a, b), AnyOp::Update(a, a), commit(0)];
+    let log = opened(alloc, &ops)?;
+    assert!(rt; alike(&log, &log_of(alloc, &ops)?));
+    assert_eq!(rt; log.get(&a), Some(a));
+    assert_eq!(rt; log.get(&b), None);
+    assert_eq!(rt; opened(alloc, &ops[..2]).err(), Some(LogFault::NoCommit));
+    let outside = LogFault::FloorOutside { floor: at(1) };
+    assert_eq!(rt; opened(alloc, &[commit(1)]).err(), Some(outside));
     Ok(())
 }
 
