@@ -3,12 +3,13 @@ ghost use Rattle.std.specs.Prelude.{◌≡◌, ◌+◌, ◌-◌, ◌<◌, ◌≤
 ghost use Rattle.sha2.specs.Sha256.{sha256};
 ghost use Rattle.sync_client.specs.Asking.{range_ok, rest_of};
 ghost use Rattle.sync_client.specs.Collected.{opening, is_complete, IsOutstanding, nothing_left};
-ghost use Rattle.sync_client.specs.Parts.{Assembles};
+ghost use Rattle.sync_client.specs.Parts.{Assembles, IsHashed, part_of};
 ghost use Rattle.sync_client.specs.Tiles.{Tiles};
 ghost use Rattle.sync_client.specs.Told.{Asks, Accepts, Finishes};
 
 use crate::fault::CollectFault;
-use crate::joining::{operations, root_behind};
+use crate::hashed::HashedPart;
+use crate::joining::{list_behind, operations};
 use crate::judging::{is_good, put_nodes};
 use crate::limits::Limits;
 use crate::ranges::{end_of_batch, forget, move_first};
@@ -161,6 +162,20 @@ impl<Op: Leaf + Copy> Collector<Op> {
         ensures whole { IfOk result (λ part. (length part.ops ≡ self.plan.target.end - self.plan.target.start) × (length part.pinned ≡ count_ones self.plan.target.start)) }
         ensures one { IfOk result (λ part. (ops : Items Op) → Assembles self.plan.target.start self.kept ops → ops ≡ part.ops) }
     {
+        match self.finish_hashed() {
+            Ok(hashed) => Ok(hashed.part),
+            Err(fault) => Err(fault),
+        }
+    }
+
+    /// What `finish` answers, with the leaves that the root was worked out from.
+    pub fn finish_hashed(self) -> Result<HashedPart<Op>, CollectFault>
+        requires { is_complete self ≡ true }
+        ensures finishes { Finishes (part_of result) sha256 Op.spelling self }
+        ensures whole { IfOk result (λ h. (length h.part.ops ≡ self.plan.target.end - self.plan.target.start) × (length h.part.pinned ≡ count_ones self.plan.target.start)) }
+        ensures one { IfOk result (λ h. (ops : Items Op) → Assembles self.plan.target.start self.kept ops → ops ≡ h.part.ops) }
+        ensures leaves { IfOk result (IsHashed Op.spelling) }
+    {
         let Collector {
             alloc,
             target,
@@ -171,14 +186,18 @@ impl<Op: Leaf + Copy> Collector<Op> {
         let count = target.end.get() - target.start.get();
         let ops = operations(alloc, kept, count as usize)?;
         let nodes = Vec::from_slice(alloc, pinned.as_slice())?;
-        let found = root_behind::<Op>(alloc, target.start, nodes, &ops)?;
+        let list = list_behind::<Op>(alloc, target.start, nodes, &ops)?;
+        let found = list.root();
         if found != target.root {
             return Err(CollectFault::WrongRoot { found });
         }
-        Ok(Part {
-            start: target.start,
-            pinned,
-            ops: List::from_vec(ops),
+        Ok(HashedPart {
+            part: Part {
+                start: target.start,
+                pinned,
+                ops: List::from_vec(ops),
+            },
+            list,
         })
     }
 }

@@ -1,12 +1,11 @@
 //! The part that kept pieces make.
 ghost use Rattle.std.specs.Prelude.{◌≡◌, ◌+◌, ◌≤◌, ◌^◌, length, count_ones, IfOk, flat_map, map};
 ghost use Rattle.sha2.specs.Sha256.{sha256};
-ghost use Rattle.ledger_merkle.specs.Tree.{part_root};
-ghost use Rattle.sync_client.specs.Parts.{IsJoined};
+ghost use Rattle.sync_client.specs.Parts.{IsJoined, leaves_behind};
 
 use crate::collector::Piece;
 use ledger_codec::{Digest, OutOfMemory};
-use ledger_merkle::{Leaf, Location, Peaks, Sha256Hasher};
+use ledger_merkle::{Leaf, Location, MerkleList, Sha256Hasher};
 use std::alloc::{AllocError, Global};
 
 /// The operations of the pieces in the order of their places, with room for so many.
@@ -38,19 +37,23 @@ fn joined<Op: Copy>(
     Ok(ops)
 }
 
-/// The root of operations behind pinned nodes.
-pub(crate) fn root_behind<Op: Leaf>(
+/// Pinned nodes with the leaves of the operations behind them.
+pub(crate) fn list_behind<Op: Leaf>(
     alloc: Global,
     start: Location,
     nodes: Vec<Digest>,
     ops: &[Op],
-) -> Result<Digest, OutOfMemory>
+) -> Result<MerkleList<Sha256Hasher>, OutOfMemory>
     requires nodes { length nodes.items ≡ count_ones start }
     requires room { start + length ops.now ≤ 2 ^ 62 }
-    ensures { IfOk result (λ d. d ≡ part_root sha256 nodes.items start (map Op.spelling ops.now)) }
+    ensures { IfOk result (λ list. list ≡ leaves_behind sha256 nodes.items start (map Op.spelling ops.now)) }
 {
-    match Peaks::<Sha256Hasher>::from_parts(alloc, start, nodes) {
-        Some(peaks) => Ok(peaks.extended(ops)?.root()),
+    match MerkleList::<Sha256Hasher>::from_parts(alloc, start, nodes) {
+        Some(list) => {
+            let mut list = list;
+            list.extend(ops)?;
+            Ok(list)
+        }
         None => unreachable!(),
     }
 }

@@ -18,6 +18,7 @@
 
 mod collector;
 mod fault;
+mod hashed;
 mod joining;
 mod judging;
 mod limits;
@@ -29,6 +30,7 @@ mod tests;
 
 pub use collector::{Collector, Piece};
 pub use fault::{CollectFault, SyncFault};
+pub use hashed::HashedPart;
 pub use limits::Limits;
-pub use session::sync_full;
+pub use session::{sync_full, sync_hashed};
 pub use steps::MAX_STRAYS;

@@ -3,7 +3,7 @@ ghost use Rattle.std.specs.Prelude.{◌≡◌, ◌-◌, ◌<◌, ◌≤◌, ◌^
 ghost use Rattle.sync_client.specs.Collected.{is_complete};
 ghost use Rattle.sync_client.specs.Counts.{CountKept, NeverNetwork};
 ghost use Rattle.sync_client.specs.Ending.{Origin, origin_of, handled, Came, Ended};
-ghost use Rattle.sync_client.specs.Parts.{IsPartOf};
+ghost use Rattle.sync_client.specs.Parts.{IsPartOf, IsHashed, part_of};
 ghost use Rattle.sync_client.specs.Seen.{seen, Paired};
 ghost use Rattle.sync_client.specs.Runs.{SessionLaws};
 ghost use Rattle.sync_client.specs.Session.{Nothing, ask_next, is_whole, rules_for, started};
@@ -16,6 +16,7 @@ ghost use Rattle.sync_client.specs.Owing.{AreSent, IsServed, Serving, ServesOn, 
 
 use crate::collector::Collector;
 use crate::fault::{CollectFault, SyncFault};
+use crate::hashed::HashedPart;
 use crate::limits::Limits;
 use crate::steps::{ask, take_next};
 use ledger_codec::Spell;
@@ -181,6 +182,30 @@ pub fn sync_full<Op: Leaf + Spell + Copy, L: Link>(
     ensures laws { SessionLaws (rules_for Op.reading Op.written Op.spelling target.now) (started (record { target = target.now; limits = limits.now }) machine.old.next) }
     ensures serving { (held : LogData) → AreSent Op.reading Op.written Op.spelling Op.Spell.sound → (h : Serves Op.written Op.Spell.sound held target.now) → Begins held machine.old (L.service link.old) → Fetches Op.written held h.log target.now result machine.new (L.service link.new) }
 {
+    match sync_hashed(alloc, target, limits, machine, link) {
+        Ok(hashed) => Ok(hashed.part),
+        Err(fault) => Err(fault),
+    }
+}
+
+/// What [`sync_full`] answers, with the leaves that the part's root was worked out from: for who opens a log of
+/// it.
+pub fn sync_hashed<Op: Leaf + Spell + Copy, L: Link>(
+    alloc: Global,
+    target: &Target,
+    limits: &Limits,
+    machine: &mut Machine<Op>,
+    link: &mut L,
+) -> Result<HashedPart<Op>, SyncFault>
+    requires { machine.old.pending ≡ [] }
+    ensures ended { Ended (part_of result) (origin_of Op.reading Op.written Op.spelling target.now limits.now machine.old (L.wire link.old) (L.faults link.old)) machine.new (L.wire link.new) (L.faults link.new) }
+    ensures exact { IsTrue L.exact → CountKept result (L.faults link.old) (L.faults link.new) }
+    ensures steady { L.steady link.old → L.steady link.new × NeverNetwork result (L.faults link.old) (L.faults link.new) }
+    ensures part { IfOk result (λ h. IsPartOf Op.spelling target.now h.part) }
+    ensures leaves { IfOk result (IsHashed Op.spelling) }
+    ensures laws { SessionLaws (rules_for Op.reading Op.written Op.spelling target.now) (started (record { target = target.now; limits = limits.now }) machine.old.next) }
+    ensures serving { (held : LogData) → AreSent Op.reading Op.written Op.spelling Op.Spell.sound → (h : Serves Op.written Op.Spell.sound held target.now) → Begins held machine.old (L.service link.old) → Fetches Op.written held h.log target.now (part_of result) machine.new (L.service link.new) }
+{
     let _batch = limits.batch();
     let _outstanding = limits.outstanding();
     let mut collector = Collector::new(alloc, *target, *limits);
@@ -188,8 +213,8 @@ pub fn sync_full<Op: Leaf + Spell + Copy, L: Link>(
         Ok(()) => {}
         Err(fault) => return Err(fault),
     }
-    match collector.finish() {
-        Ok(part) => Ok(part),
+    match collector.finish_hashed() {
+        Ok(hashed) => Ok(hashed),
         Err(CollectFault::WrongRoot { found }) => Err(SyncFault::WrongRoot { found }),
         Err(CollectFault::OutOfMemory) => Err(SyncFault::OutOfMemory),
         Err(CollectFault::InvalidProof { request_id: _ }) => unreachable!(),

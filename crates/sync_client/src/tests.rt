@@ -159,6 +159,22 @@ fn a_part_has_its_root(rt: HostRuntime) {
     assert!(rt; part_behind(rt.alloc(), LEAF_0) == Some(Ok((2, 1))));
 }
 
+/// The root over the leaves that come with a finished part.
+fn root_of_leaves(alloc: Global) -> Option<Digest> {
+    let mut all = collector(alloc, 1)?;
+    let both = answer(alloc, &REST, &[LEAF_0], &[LEAF_0])?;
+    let _asked = turn(&mut all, both)?;
+    if !all.is_complete() {
+        return None;
+    }
+    Some(all.finish_hashed().ok()?.list.root())
+}
+
+#[test]
+fn a_part_comes_with_its_leaves(rt: HostRuntime) {
+    assert!(rt; root_of_leaves(rt.alloc()) == Some(ROOT));
+}
+
 #[test]
 fn a_wrong_pinned_node_gives_another_root(rt: HostRuntime) {
     let other = CollectFault::WrongRoot { found: OTHER_ROOT };

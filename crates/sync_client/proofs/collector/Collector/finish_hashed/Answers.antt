@@ -3,14 +3,16 @@ use Rattle.std.proofs.lemmas.Slice.Eq.{bytes_eq-Decides}
 use Rattle.std.proofs.lemmas.Grind.{common_steps}
 use Rattle.sha2.specs.Sha256.{sha256}
 use Rattle.ledger_merkle.specs.Tree.{part_root}
+use Rattle.ledger_merkle.specs.Leaves.{list_root}
+use Rattle.ledger_merkle.proofs.Levels.{root_is_part}
 use Rattle.sync_client.specs.Collected.{Collected, is_complete}
-use Rattle.sync_client.specs.Parts.{Assembles}
+use Rattle.sync_client.specs.Parts.{Assembles, leaves_behind}
 use Rattle.sync_client.proofs.Chains.{finished, whole, size_is}
 use Rattle.sync_client.proofs.Unique.{one_part}
-use Rattle.sync_client.proofs.collector.Collector.finish.Goals as goal
+use Rattle.sync_client.proofs.collector.Collector.finish_hashed.Goals as goal
 
-pub root_behind-requires-clause-nodes : goal.root_behind-requires-clause-nodes
-root_behind-requires-clause-nodes g c =
+pub list_behind-requires-clause-nodes : goal.list_behind-requires-clause-nodes
+list_behind-requires-clause-nodes g c =
     let v : Collected g.row.Op.Denot = record {
       plan = record { target = c.self.inside.target; limits = c.self.inside.limits };
       fresh = c.self.inside.fresh;
@@ -26,8 +28,8 @@ root_behind-requires-clause-nodes g c =
     let e : c.in_ok-nodes.nodes.items ≡ c.self.inside.pinned = cc (a, c.as_slice.ensures) in
     rw e f.1
 
-pub root_behind-requires-clause-room : goal.root_behind-requires-clause-room
-root_behind-requires-clause-room g c =
+pub list_behind-requires-clause-room : goal.list_behind-requires-clause-room
+list_behind-requires-clause-room g c =
     let v : Collected g.row.Op.Denot = record {
       plan = record { target = c.self.inside.target; limits = c.self.inside.limits };
       fresh = c.self.inside.fresh;
@@ -57,13 +59,15 @@ returns-then-ne-clause-finishes g c =
     let f = finished v c.in_ok-ops.ops.items lt c.self.invariant done c.in_ok-ops.ensures in
     let a : c.in_ok-nodes.nodes.items ≡ c.as_slice.result.now = c.in_ok-nodes.ensures.items in
     let e : c.in_ok-nodes.nodes.items ≡ c.self.inside.pinned = cc (a, c.as_slice.ensures) in
-    let q : c.in_ok-found.found ≡ part_root sha256 c.self.inside.pinned c.self.inside.target.start (map g.Op.Leaf.spelling c.in_ok-ops.ops.items) = rw (e, c.deref.ensures.value) at c.in_ok-found.ensures in
+    let l : c.in_ok-list.list ≡ leaves_behind sha256 c.self.inside.pinned c.self.inside.target.start (map g.Op.Leaf.spelling c.in_ok-ops.ops.items) = rw (e, c.deref.ensures.value) at c.in_ok-list.ensures in
+    let q : c.root-found.result ≡ part_root sha256 c.self.inside.pinned c.self.inside.target.start (map g.Op.Leaf.spelling c.in_ok-ops.ops.items) =
+    c.root-found.ensures.all ∙ (ap (list_root sha256) l ∙ root_is_part sha256 (leaves_behind sha256 c.self.inside.pinned c.self.inside.target.start (map g.Op.Leaf.spelling c.in_ok-ops.ops.items)) (map g.Op.Leaf.spelling c.in_ok-ops.ops.items) refl) in
     rw (← c.self.view_is) (
       c.in_ok-ops.ops.items,
       f.0,
       q,
-      λ (w : c.in_ok-found.found ≡ c.self.inside.target.root).
-          let same : bytes_eq c.in_ok-found.found c.self.inside.target.root ≡ true = (bytes_eq-Decides c.in_ok-found.found c.self.inside.target.root).1 w in
+      λ (w : c.root-found.result ≡ c.self.inside.target.root).
+          let same : bytes_eq c.root-found.result c.self.inside.target.root ≡ true = (bytes_eq-Decides c.root-found.result c.self.inside.target.root).1 w in
           grind (arith, common_steps),
     )
 
@@ -82,8 +86,10 @@ returns-clause-finishes g c =
     let f = finished v c.in_ok-ops.ops.items lt c.self.invariant done c.in_ok-ops.ensures in
     let a : c.in_ok-nodes.nodes.items ≡ c.as_slice.result.now = c.in_ok-nodes.ensures.items in
     let e : c.in_ok-nodes.nodes.items ≡ c.self.inside.pinned = cc (a, c.as_slice.ensures) in
-    let q : c.in_ok-found.found ≡ part_root sha256 c.self.inside.pinned c.self.inside.target.start (map g.Op.Leaf.spelling c.in_ok-ops.ops.items) = rw (e, c.deref.ensures.value) at c.in_ok-found.ensures in
-    let same : c.in_ok-found.found ≡ c.self.inside.target.root = (bytes_eq-Decides c.in_ok-found.found c.self.inside.target.root).0 (grind (arith, common_steps)) in
+    let l : c.in_ok-list.list ≡ leaves_behind sha256 c.self.inside.pinned c.self.inside.target.start (map g.Op.Leaf.spelling c.in_ok-ops.ops.items) = rw (e, c.deref.ensures.value) at c.in_ok-list.ensures in
+    let q : c.root-found.result ≡ part_root sha256 c.self.inside.pinned c.self.inside.target.start (map g.Op.Leaf.spelling c.in_ok-ops.ops.items) =
+    c.root-found.ensures.all ∙ (ap (list_root sha256) l ∙ root_is_part sha256 (leaves_behind sha256 c.self.inside.pinned c.self.inside.target.start (map g.Op.Leaf.spelling c.in_ok-ops.ops.items)) (map g.Op.Leaf.spelling c.in_ok-ops.ops.items) refl) in
+    let same : c.root-found.result ≡ c.self.inside.target.root = (bytes_eq-Decides c.root-found.result c.self.inside.target.root).0 (grind (arith, common_steps)) in
     rw (← c.self.view_is) (refl, refl, rw c.from_vec.ensures f.0, rw c.from_vec.ensures (sym q ∙ same))
 
 pub returns-clause-whole : goal.returns-clause-whole

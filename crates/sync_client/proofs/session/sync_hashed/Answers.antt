@@ -7,7 +7,7 @@ use Rattle.sync_client.specs.Collected.{Collected}
 use Rattle.sync_client.proofs.ServingEnds.{began_served, logs_part, never_wrong}
 use Rattle.sync_client.proofs.Closing.{began, finished_so, wrong_so}
 use Rattle.sync_client.proofs.Sameness.{session_laws}
-use Rattle.sync_client.proofs.session.sync_full.Goals as goal
+use Rattle.sync_client.proofs.session.sync_hashed.Goals as goal
 
 -- a number is that one, and above 0
 positive : (n m : ℕ) → n ≡ m → 0 < n → 0 < m
@@ -21,15 +21,15 @@ returns-in-Err-clause-ended g c =
 pub returns-in-Err-clause-laws : goal.returns-in-Err-clause-laws
 returns-in-Err-clause-laws g c = session_laws _ _
 
-pub returns-in-Ok-finish-clause-ended : goal.returns-in-Ok-finish-clause-ended
-returns-in-Ok-finish-clause-ended g c =
+pub returns-in-Ok-finish_hashed-clause-ended : goal.returns-in-Ok-finish_hashed-clause-ended
+returns-in-Ok-finish_hashed-clause-ended g c =
     let o : Origin g.row.Op.Denot = origin_of g.Op.Spell.reading g.Op.Spell.written g.Op.Leaf.spelling c.args.target.now c.args.limits.now c.args.machine.now (g.L.Link.wire c.args.link.now) (g.L.Link.faults c.args.link.now) in
     let w = c.in-Ok.ensures.collects o refl (began g.Op.Spell.reading g.Op.Spell.written g.Op.Leaf.spelling c.args.target.now c.args.limits.now c.args.machine.now c.new-collector.result (g.L.Link.wire c.args.link.now) (g.L.Link.faults c.args.link.now) c.requires c.new-collector.ensures.value) in
-    finished_so g.Op.Spell.reading g.Op.Spell.written g.Op.Leaf.spelling c.args.target.now c.args.limits.now c.args.machine.now (g.L.Link.wire c.args.link.now) (g.L.Link.faults c.args.link.now) c.collect.new.machine c.collect.new.collector (g.L.Link.wire c.collect.new.link) (g.L.Link.faults c.collect.new.link) c.in-Ok-finish.part
-    w c.collect.ensures.tiles c.in-Ok.ensures.complete c.in-Ok.ensures.paired c.in-Ok-finish.ensures.finishes c.in-Ok-finish.ensures.one
+    finished_so g.Op.Spell.reading g.Op.Spell.written g.Op.Leaf.spelling c.args.target.now c.args.limits.now c.args.machine.now (g.L.Link.wire c.args.link.now) (g.L.Link.faults c.args.link.now) c.collect.new.machine c.collect.new.collector (g.L.Link.wire c.collect.new.link) (g.L.Link.faults c.collect.new.link) c.in-Ok-finish_hashed.hashed.part
+    w c.collect.ensures.tiles c.in-Ok.ensures.complete c.in-Ok.ensures.paired c.in-Ok-finish_hashed.ensures.finishes c.in-Ok-finish_hashed.ensures.one
 
-pub returns-in-Ok-finish-clause-laws : goal.returns-in-Ok-finish-clause-laws
-returns-in-Ok-finish-clause-laws g c = session_laws _ _
+pub returns-in-Ok-finish_hashed-clause-laws : goal.returns-in-Ok-finish_hashed-clause-laws
+returns-in-Ok-finish_hashed-clause-laws g c = session_laws _ _
 
 pub returns-in-Err-WrongRoot-clause-ended : goal.returns-in-Err-WrongRoot-clause-ended
 returns-in-Err-WrongRoot-clause-ended g c =
@@ -49,11 +49,11 @@ pub returns-in-Err-clause-serving : goal.returns-in-Err-clause-serving
 returns-in-Err-clause-serving g c held sent h b =
     c.in-Err.ensures.serving held sent h (began_served g.Op.Spell.written held h.log c.args.target.now c.args.limits.now c.args.machine.now c.new-collector.result (g.L.Link.service c.args.link.now) c.requires c.new-collector.ensures.value (positive _ _ c.batch-batch.ensures.same c.batch-batch.ensures.some) (positive _ _ c.outstanding-outstanding.ensures.same c.outstanding-outstanding.ensures.some) b)
 
-pub returns-in-Ok-finish-clause-serving : goal.returns-in-Ok-finish-clause-serving
-returns-in-Ok-finish-clause-serving g c held sent h b =
+pub returns-in-Ok-finish_hashed-clause-serving : goal.returns-in-Ok-finish_hashed-clause-serving
+returns-in-Ok-finish_hashed-clause-serving g c held sent h b =
     let w = c.in-Ok.ensures.serving held sent h (began_served g.Op.Spell.written held h.log c.args.target.now c.args.limits.now c.args.machine.now c.new-collector.result (g.L.Link.service c.args.link.now) c.requires c.new-collector.ensures.value (positive _ _ c.batch-batch.ensures.same c.batch-batch.ensures.some) (positive _ _ c.outstanding-outstanding.ensures.same c.outstanding-outstanding.ensures.some) b) in
     logs_part g.Op.Spell.written g.Op.Leaf.spelling g.Op.Spell.sound sent.same held c.args.target.now h c.args.limits.now c.collect.new.machine c.collect.new.collector (g.L.Link.service c.collect.new.link)
-    (c.collect.ensures.plan ∙ ap (λ (v : Collected g.row.Op.Denot). v.plan) c.new-collector.ensures.value) c.collect.ensures.tiles c.in-Ok.ensures.complete c.in-Ok.ensures.paired w.0 w.1 c.in-Ok-finish.part c.in-Ok-finish.ensures.finishes c.in-Ok-finish.ensures.one
+    (c.collect.ensures.plan ∙ ap (λ (v : Collected g.row.Op.Denot). v.plan) c.new-collector.ensures.value) c.collect.ensures.tiles c.in-Ok.ensures.complete c.in-Ok.ensures.paired w.0 w.1 c.in-Ok-finish_hashed.hashed.part c.in-Ok-finish_hashed.ensures.finishes c.in-Ok-finish_hashed.ensures.one
 
 pub returns-in-Err-WrongRoot-clause-serving : goal.returns-in-Err-WrongRoot-clause-serving
 returns-in-Err-WrongRoot-clause-serving g c held sent h b =
