@@ -1,8 +1,8 @@
 //! A log, followed over a link: fetched, checked against its target, and settled on.
 //!
 //! ```text
-//!   link --sync_full--> part --report_of--> report
-//!             |                    |
+//!   link --sync_hashed--> part --report_of--> report
+//!             |                      |
 //!      session's fault      no log, no account, no settled block
 //! ```
 ghost use Rattle.std.specs.Prelude.{◌≡◌, IfOk, IfErr, IsOkUnless, IsTrue};
@@ -26,7 +26,7 @@ use ledger_transfers::Transfer;
 use std::alloc::Global;
 use std::random::RandomSource;
 use std::thread::Threads;
-use sync_client::{Limits, SyncFault, sync_full};
+use sync_client::{HashedPart, Limits, SyncFault, sync_hashed};
 use sync_net::{Generator, Link, Machine};
 
 /// A fault of the session as one of the whole call.
@@ -79,11 +79,11 @@ pub fn follow<
     // Their types keep both small, so that request numbers don't run out.
     let _few = limits.outstanding();
     let _near = target.end.get();
-    let part = match sync_full(alloc, target, limits, &mut machine, link) {
-        Ok(part) => part,
+    let HashedPart { part, list } = match sync_hashed(alloc, target, limits, &mut machine, link) {
+        Ok(hashed) => hashed,
         Err(fault) => return Err(sync_fault(fault)),
     };
-    match report_of(rt, alloc, target, part, blocks, strategy) {
+    match report_of(rt, alloc, target, part, list, blocks, strategy) {
         Ok(report) => Ok(report),
         Err(fault) => Err(Fault::from(fault)),
     }

@@ -7,6 +7,7 @@ use Rattle.sha2.specs.Sha256.{sha256}
 use Rattle.ledger_log.specs.Any.{any_floor, any_spelling}
 use Rattle.ledger_log.specs.View.{last_floor}
 use Rattle.ledger_log.specs.declared.any.AnyOp.{AnyOp}
+use Rattle.ledger_merkle.specs.Leaves.{ListView, leaves_from}
 use Rattle.ledger_merkle.specs.Tree.{part_root}
 use Rattle.ledger_transfers.specs.Rules.{SameOutcome}
 use Rattle.ledger_settling.specs.Blocks.{Meaning, account_at, IsReadable, RunsTo}
@@ -35,6 +36,10 @@ pub record Spans (target : Target) (pinned : List (List ℕ)) (kept : List AnyOp
   pub nodes : length pinned ≡ count_ones target.start
   pub range : target.start + length kept ≡ target.end
   pub root : part_root sha256 pinned target.start (map any_spelling kept) ≡ target.root
+
+-- the pinned nodes at `start` with the leaves of the operations behind them
+abbrev pub leaves_of : ℕ → List (List ℕ) → List AnyOp → ListView
+leaves_of start pinned ops = record { front = start; pinned = pinned; leaves = leaves_from sha256 start (map any_spelling ops) }
 
 module _ {T A E : Type 0} (m : Meaning T A E) where
   -- the report of these blocks over this target

@@ -1,7 +1,7 @@
 //! A part opened as a log, and the report of blocks on it.
 ghost use Rattle.std.specs.Prelude.{◌≡◌, ℕ, IfOk, IfErr, OnOk};
 ghost use Rattle.ledger_settling.specs.Blocks.{meaning};
-ghost use Rattle.ledger_settling.specs.Reports.{Spans, ReportOf, IsWhole};
+ghost use Rattle.ledger_settling.specs.Reports.{Spans, ReportOf, IsWhole, leaves_of};
 ghost use Rattle.ledger_settling.specs.Faults.{RunFails, OpenFails};
 
 use crate::fault::ReportFault;
@@ -12,32 +12,28 @@ use ledger_codec::{Digest, List};
 use ledger_job::Block;
 use ledger_log::{AnyFamily, AnyOp, Key, Log, LogFault, Target};
 use ledger_managed::AccountValue;
-use ledger_merkle::{Location, Part, Sha256Hasher};
+use ledger_merkle::{Location, MerkleList, Part, Sha256Hasher};
 use ledger_strategy::Strategy;
 use ledger_transfers::Transfer;
 use std::alloc::Global;
 use std::random::RandomSource;
 use std::thread::Threads;
 
-/// The log of a part that spans the target.
+/// The log of operations that span the target, with their leaves.
 fn open_log(
     alloc: Global,
     target: &Target,
-    part: Part<AnyOp>,
+    list: MerkleList<Sha256Hasher>,
+    ops: Vec<AnyOp>,
 ) -> Result<Log<AnyFamily, Sha256Hasher>, ReportFault>
-    requires start { part.start ≡ target.now.start }
-    requires spans { Spans target.now part.pinned part.ops }
-    ensures log { IfOk result (λ log. log ≡ record { front = target.now.start; pinned = part.pinned; ops = part.ops }) }
-    ensures whole { OnOk result (IsWhole target.now.start part.ops) }
-    ensures fails { IfErr result (OpenFails target.now part.ops) }
+    requires leaves { list ≡ leaves_of target.now.start list.pinned ops.items }
+    requires spans { Spans target.now list.pinned ops.items }
+    ensures log { IfOk result (λ log. log ≡ record { front = target.now.start; pinned = list.pinned; ops = ops.items }) }
+    ensures whole { OnOk result (IsWhole target.now.start ops.items) }
+    ensures fails { IfErr result (OpenFails target.now ops.items) }
 {
     let last = target.end.get() - 1;
-    match Log::from_parts(
-        alloc,
-        part.pinned.into_vec(),
-        part.start,
-        part.ops.into_vec(),
-    ) {
+    match Log::from_list(alloc, list, ops) {
         Ok(log) => {
             let _floor = log.floor();
             Ok(log)
@@ -95,7 +91,8 @@ fn settle_log<
     })
 }
 
-/// The report of these blocks over a part that spans the target and has its root.
+/// The report of these blocks over a part that spans the target and has its root. `list` holds the part's leaves,
+/// so that nothing of it is hashed again.
 pub fn report_of<
     R: RandomSource + Threads + Sync,
     T: Transfer<Key = Key, Account = A>,
@@ -106,18 +103,20 @@ pub fn report_of<
     alloc: Global,
     target: &Target,
     part: Part<AnyOp>,
+    list: MerkleList<Sha256Hasher>,
     blocks: &[Block<T>],
     strategy: &S,
 ) -> Result<Report<A>, ReportFault>
     requires start { part.start ≡ target.now.start }
     requires spans { Spans target.now part.pinned part.ops }
+    requires leaves { list ≡ leaves_of part.start part.pinned part.ops }
     ensures report { IfOk result (ReportOf (meaning T.changes_of A.eq A.rules A.values) target.now blocks.now) }
     ensures kept { IfOk result (λ r. r.kept ≡ part.ops) }
     ensures pinned { IfOk result (λ r. r.pinned ≡ part.pinned) }
     ensures fails { IfErr result (RunFails (meaning T.changes_of A.eq A.rules A.values) target.now part.ops blocks.now) }
 {
-    let pinned = Vec::from_slice(alloc, part.pinned.as_slice())?;
+    let pinned = part.pinned.into_vec();
     let kept = Vec::from_slice(alloc, part.ops.as_slice())?;
-    let log = open_log(alloc, target, part)?;
+    let log = open_log(alloc, target, list, part.ops.into_vec())?;
     settle_log(rt, alloc, target, pinned, kept, log, blocks, strategy)
 }

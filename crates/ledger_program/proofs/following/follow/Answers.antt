@@ -16,16 +16,16 @@ returns-in-Err-clause-fails g c =
     let e = c.new-machine.ensures ∙ ap idle c.new.ensures in
     let m = meaning g.T.Transfer.changes_of g.A.PartialEq.eq g.A.Account.rules g.A.AccountValue.values in
     let o = beginning c.args.target.now c.args.limits.now (g.L.Link.wire c.args.link.now) (g.L.Link.faults c.args.link.now) in
-    subst (FollowFails m o (g.L.Link.wire c.sync_full.new.link) (g.L.Link.faults c.sync_full.new.link) c.args.blocks.now) (sym c.sync_fault.ensures)
-    (stopped_from m c.args.blocks.now c.args.target.now c.args.limits.now (g.L.Link.wire c.args.link.now) (g.L.Link.faults c.args.link.now) c.new-machine.result _ (g.L.Link.wire c.sync_full.new.link) (g.L.Link.faults c.sync_full.new.link) e c.in-Err.fault c.in-Err.ensures.ended)
+    subst (FollowFails m o (g.L.Link.wire c.sync_hashed.new.link) (g.L.Link.faults c.sync_hashed.new.link) c.args.blocks.now) (sym c.sync_fault.ensures)
+    (stopped_from m c.args.blocks.now c.args.target.now c.args.limits.now (g.L.Link.wire c.args.link.now) (g.L.Link.faults c.args.link.now) c.new-machine.result _ (g.L.Link.wire c.sync_hashed.new.link) (g.L.Link.faults c.sync_hashed.new.link) e c.in-Err.fault c.in-Err.ensures.ended)
 
 pub returns-clause-fails : goal.returns-clause-fails
 returns-clause-fails g c =
     let e = c.new-machine.ensures ∙ ap idle c.new.ensures in
     let m = meaning g.T.Transfer.changes_of g.A.PartialEq.eq g.A.Account.rules g.A.AccountValue.values in
     let o = beginning c.args.target.now c.args.limits.now (g.L.Link.wire c.args.link.now) (g.L.Link.faults c.args.link.now) in
-    subst (FollowFails m o (g.L.Link.wire c.sync_full.new.link) (g.L.Link.faults c.sync_full.new.link) c.args.blocks.now) (sym c.from.ensures)
-    (no_report_from m c.args.blocks.now c.args.target.now c.args.limits.now (g.L.Link.wire c.args.link.now) (g.L.Link.faults c.args.link.now) c.new-machine.result _ (g.L.Link.wire c.sync_full.new.link) (g.L.Link.faults c.sync_full.new.link) e c.in-Ok.part c.in-Err-report_of.fault c.in-Ok.ensures.ended c.in-Err-report_of.ensures.fails)
+    subst (FollowFails m o (g.L.Link.wire c.sync_hashed.new.link) (g.L.Link.faults c.sync_hashed.new.link) c.args.blocks.now) (sym c.from.ensures)
+    (no_report_from m c.args.blocks.now c.args.target.now c.args.limits.now (g.L.Link.wire c.args.link.now) (g.L.Link.faults c.args.link.now) c.new-machine.result _ (g.L.Link.wire c.sync_hashed.new.link) (g.L.Link.faults c.sync_hashed.new.link) e c.in-Ok.hashed.part c.in-Err-report_of.fault c.in-Ok.ensures.ended c.in-Err-report_of.ensures.fails)
 
 pub returns-in-Err-clause-serving : goal.returns-in-Err-clause-serving
 returns-in-Err-clause-serving g c held h told =
@@ -41,7 +41,7 @@ returns-clause-serving g c held h told =
     let m = meaning g.T.Transfer.changes_of g.A.PartialEq.eq g.A.Account.rules g.A.AccountValue.values in
     let own = c.in-Ok.ensures.serving held any_sent h (begins_so held c.new-machine.result _ e told) in
     subst (λ f. FollowsLog m h.log c.args.target.now c.args.blocks.now (Err f)) (sym c.from.ensures)
-    (report_served m h.log c.args.target.now c.args.blocks.now c.in-Ok.part.ops c.in-Err-report_of.fault own.ops c.in-Err-report_of.ensures.fails)
+    (report_served m h.log c.args.target.now c.args.blocks.now c.in-Ok.hashed.part.ops c.in-Err-report_of.fault own.ops c.in-Err-report_of.ensures.fails)
 
 pub returns-in-Ok-report_of-clause-serving : goal.returns-in-Ok-report_of-clause-serving
 returns-in-Ok-report_of-clause-serving g c held h told =
@@ -53,12 +53,12 @@ pub returns-in-Err-clause-complete : goal.returns-in-Err-clause-complete
 returns-in-Err-clause-complete g c held h told amounts valid still =
     let m = meaning g.T.Transfer.changes_of g.A.PartialEq.eq g.A.Account.rules g.A.AccountValue.values in
     let o = beginning c.args.target.now c.args.limits.now (g.L.Link.wire c.args.link.now) (g.L.Link.faults c.args.link.now) in
-    only_memory m h.log c.args.target.now c.args.blocks.now o (g.L.Link.wire c.sync_full.new.link) (g.L.Link.faults c.sync_full.new.link) c.sync_fault.result amounts valid still
+    only_memory m h.log c.args.target.now c.args.blocks.now o (g.L.Link.wire c.sync_hashed.new.link) (g.L.Link.faults c.sync_hashed.new.link) c.sync_fault.result amounts valid still
     (returns-in-Err-clause-serving g c held h told) (returns-in-Err-clause-fails g c)
 
 pub returns-clause-complete : goal.returns-clause-complete
 returns-clause-complete g c held h told amounts valid still =
     let m = meaning g.T.Transfer.changes_of g.A.PartialEq.eq g.A.Account.rules g.A.AccountValue.values in
     let o = beginning c.args.target.now c.args.limits.now (g.L.Link.wire c.args.link.now) (g.L.Link.faults c.args.link.now) in
-    only_memory m h.log c.args.target.now c.args.blocks.now o (g.L.Link.wire c.sync_full.new.link) (g.L.Link.faults c.sync_full.new.link) c.from.result amounts valid still
+    only_memory m h.log c.args.target.now c.args.blocks.now o (g.L.Link.wire c.sync_hashed.new.link) (g.L.Link.faults c.sync_hashed.new.link) c.from.result amounts valid still
     (returns-clause-serving g c held h told) (returns-clause-fails g c)
