@@ -23,6 +23,7 @@ mod joining;
 mod judging;
 mod limits;
 mod ranges;
+mod receiving;
 mod session;
 mod steps;
 #[cfg(test)]
@@ -32,5 +33,6 @@ pub use collector::{Collector, Piece};
 pub use fault::{CollectFault, SyncFault};
 pub use hashed::HashedPart;
 pub use limits::Limits;
+pub use receiving::receive;
 pub use session::{sync_full, sync_hashed};
 pub use steps::MAX_STRAYS;

@@ -8,22 +8,23 @@ ghost use Rattle.sync_client.specs.Seen.{seen, Paired};
 ghost use Rattle.sync_client.specs.Runs.{SessionLaws};
 ghost use Rattle.sync_client.specs.Session.{Nothing, ask_next, is_whole, rules_for, started};
 ghost use Rattle.sync_client.specs.Tiles.{Tiles};
-ghost use Rattle.sync_client.specs.Turns.{Filled, Handled, Receives, Collects};
+ghost use Rattle.sync_client.specs.Turns.{Filled, Handled, Collects};
 ghost use Rattle.ledger_log.specs.declared.target.Target.{Target};
 ghost use Rattle.sync_net.specs.Core.{LogData};
 ghost use Rattle.sync_client.specs.Serving.{Serves};
-ghost use Rattle.sync_client.specs.Owing.{AreSent, IsServed, Serving, ServesOn, Gives, Begins, Fetches};
+ghost use Rattle.sync_client.specs.Owing.{AreSent, IsServed, Serving, ServesOn, Begins, Fetches};
 
 use crate::collector::Collector;
 use crate::fault::{CollectFault, SyncFault};
 use crate::hashed::HashedPart;
 use crate::limits::Limits;
+use crate::receiving::receive;
 use crate::steps::{ask, take_next};
 use ledger_codec::Spell;
 use ledger_log::Target;
 use ledger_merkle::{Leaf, Part};
 use std::alloc::Global;
-use sync_net::{Link, LinkError, Machine, MachineFault};
+use sync_net::{Link, LinkError, Machine};
 
 /// How many bytes are asked of the link at once.
 const BUFFER_SIZE: usize = 4096;
@@ -59,34 +60,6 @@ fn fill<Op: Leaf + Spell + Copy, L: Link>(
             Err(LinkError::Failed) => return Err(SyncFault::Network),
             Err(LinkError::OutOfMemory) => return Err(SyncFault::OutOfMemory),
         }
-    }
-}
-
-/// Receives the next bytes. Their end closes the machine.
-fn receive<Op: Spell, L: Link>(
-    machine: &mut Machine<Op>,
-    link: &mut L,
-    buffer: &mut [u8],
-) -> Result<(), SyncFault>
-    requires room { 0 < length buffer.old }
-    requires live { machine.old.closed ≡ false }
-    ensures exact { IsTrue L.exact → CountKept result (L.faults link.old) (L.faults link.new) }
-    ensures steady { L.steady link.old → L.steady link.new × NeverNetwork result (L.faults link.old) (L.faults link.new) }
-    ensures receives { Receives result machine.old machine.new (L.wire link.old) (L.wire link.new) (L.faults link.old) (L.faults link.new) }
-    ensures gives { Gives result machine.old machine.new (L.service link.old) (L.service link.new) }
-{
-    match link.recv(buffer) {
-        Ok(0) => {
-            let _ended = machine.end();
-            Err(SyncFault::RequestChannelClosed)
-        }
-        Ok(count) => match machine.feed(&buffer[..count]) {
-            Ok(()) => Ok(()),
-            Err(MachineFault::OutOfMemory) => Err(SyncFault::OutOfMemory),
-            Err(_) => unreachable!(),
-        },
-        Err(LinkError::Failed) => Err(SyncFault::Network),
-        Err(LinkError::OutOfMemory) => Err(SyncFault::OutOfMemory),
     }
 }
 

@@ -2,11 +2,10 @@
 ghost use Rattle.std.specs.Prelude.{◌≡◌, ◌<◌, ◌∷◌, [], length, IsTrue, false};
 ghost use Rattle.sync_client.specs.Counts.{CountKept, NeverNetwork};
 ghost use Rattle.sync_net.specs.declared.ask.Pending.{Pending as PendingValue};
-ghost use Rattle.sync_client.specs.Turns.{Receives};
 ghost use Rattle.sync_fetch.specs.Told.{HeldAnswer, NextAnswer, Awaits, Sends};
 
 use ledger_codec::Spell;
-use sync_client::{MAX_STRAYS, SyncFault};
+use sync_client::{MAX_STRAYS, SyncFault, receive};
 use sync_net::{Answer, Link, LinkError, Machine, MachineFault, Message, SubmitRefusal, Submitted};
 
 /// How many bytes are asked of the link at once.
@@ -48,33 +47,6 @@ fn answer_held<Op: Spell>(machine: &mut Machine<Op>) -> Result<Option<Answer<Op>
         Err(MachineFault::RequestChannelClosed) => Err(SyncFault::RequestChannelClosed),
         Err(MachineFault::Closed) => Err(SyncFault::Closed),
         Err(MachineFault::OutOfMemory) => Err(SyncFault::OutOfMemory),
-    }
-}
-
-/// Receives the next bytes. Their end closes the machine.
-fn receive<Op: Spell, L: Link>(
-    machine: &mut Machine<Op>,
-    link: &mut L,
-    buffer: &mut [u8],
-) -> Result<(), SyncFault>
-    requires room { 0 < length buffer.old }
-    requires live { machine.old.closed ≡ false }
-    ensures exact { IsTrue L.exact → CountKept result (L.faults link.old) (L.faults link.new) }
-    ensures steady { L.steady link.old → L.steady link.new × NeverNetwork result (L.faults link.old) (L.faults link.new) }
-    ensures receives { Receives result machine.old machine.new (L.wire link.old) (L.wire link.new) (L.faults link.old) (L.faults link.new) }
-{
-    match link.recv(buffer) {
-        Ok(0) => {
-            let _ended = machine.end();
-            Err(SyncFault::RequestChannelClosed)
-        }
-        Ok(count) => match machine.feed(&buffer[..count]) {
-            Ok(()) => Ok(()),
-            Err(MachineFault::OutOfMemory) => Err(SyncFault::OutOfMemory),
-            Err(_) => unreachable!(),
-        },
-        Err(LinkError::Failed) => Err(SyncFault::Network),
-        Err(LinkError::OutOfMemory) => Err(SyncFault::OutOfMemory),
     }
 }
 
