@@ -2,14 +2,15 @@
 use mathlib.Core.Logic.{◌⊎◌, inl, inr}
 use Rattle.std.proofs.Common.{◌≡◌, ℕ, ◌≤◌, zero, suc, Bool, true, false, cond, ◌||◌, List, [], ◌∷◌, ◌++◌, slice_get, position, None, Some, MatchBool, refl, sym, ap, subst, ◌∙◌, true≢false}
 use Rattle.std.specs.Prelude.{is_some, option_and_then}
-use Rattle.std.specs.List.{list_any}
+use Rattle.std.specs.List.{IsDistinct, list_any}
 use Rattle.std.specs.Cmp.{IsEquivalence}
 use Rattle.std.specs.Map.{lookup, keys_of, values_of}
 use Rattle.std.specs.Option.{option_map}
 use Rattle.std.proofs.lemmas.List.{append_assoc}
 use Rattle.std.proofs.lemmas.Map.Made.{lookup_key_passes}
 use Rattle.indexmap.specs.IndexMap.{IndexMap, IsUnique}
-use Rattle.indexmap.proofs.MapLemmas.{Found-position}
+use Rattle.indexmap.proofs.MapLemmas.{Found-position, index-first}
+use Rattle.indexmap.proofs.RemoveLemmas.{own_first}
 use Rattle.indexmap.proofs.CallerLemmas.{updates-with_value_at}
 use Rattle.ledger_transfers.specs.declared.change.Change.{Change}
 use Rattle.ledger_transfers.specs.declared.held.Held.{Held}
@@ -52,6 +53,10 @@ module _ {A E K : Type 0} (same : A → A → Bool) (rules : Rules A E) where
   settles_there es i h false at f = (h, at, f)
 
 module _ {A E K : Type 0} (eq : K → K → Bool) (laws : IsEquivalence eq) (same : A → A → Bool) (rules : Rules A E) where
+  -- a key is looked up at the place of an equal one
+  pub placed_at : (es : List (K × Held A)) (i : ℕ) (k q : K) (h : Held A) → IsDistinct eq (keys_of es) → slice_get es i ≡ Some (q, h) → eq k q ≡ true → position (eq k) (keys_of es) ≡ Some i
+  placed_at es i k q h distinct at e = ap (λ (p : K → Bool). position p (keys_of es)) (λ j x. laws.congr k q x e j) ∙ index-first (eq q) es i (own_first eq laws es i q h distinct at)
+
   -- the key's entry has new sums, and all others stay
   abbrev IsWritten : List (K × Held A) → List (K × Held A) → K → Held A → Type 0
   IsWritten old new k h = (q : K) → lookup (eq q) new ≡ cond (eq k q) (Some h) (lookup (eq q) old)

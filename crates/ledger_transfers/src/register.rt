@@ -3,7 +3,7 @@ ghost use Rattle.std.specs.Prelude.{◌≡◌, ◌+◌, ◌<◌, ◌≤◌, ◌�
 ghost use Rattle.std.specs.List.{All};
 ghost use Rattle.std.specs.Map.{keys_of};
 ghost use Rattle.indexmap.specs.IndexMap.{get, spare, IsUnique};
-ghost use Rattle.indexmap.specs.IndexSet.{IsUnique as AreDistinct};
+ghost use Rattle.indexmap.specs.IndexSet.{insert_key, IsUnique as AreDistinct};
 ghost use Rattle.ledger_transfers.specs.Settling.{opened, SettlesTo, Settles};
 ghost use Rattle.ledger_transfers.specs.Taking.{IsHeld};
 ghost use Rattle.ledger_transfers.specs.Touches.{max_amount};
@@ -21,9 +21,26 @@ use ledger_codec::OutOfMemory;
 use std::alloc::Global;
 use std::hash::Hash;
 
-/// Takes up the keys of the touches, or none where memory is wanting.
+/// Takes up a key, and notes its place, unless memory is wanting for that.
+fn touch_key<K: Copy + Eq + Hash>(
+    keys: &mut IndexSet<K, Seeded>,
+    places: &mut Vec<usize>,
+    key: K,
+) -> Result<(), OutOfMemory>
+    ensures ok { OnOk result (keys.new.keys ≡ insert_key K.eq keys.old.keys key) }
+    ensures err { OnErr result (keys.new.keys ≡ keys.old.keys) }
+    ensures unique { AreDistinct K.eq keys.new }
+{
+    let (place, _) = keys.insert_full(key)?;
+    let _noted = places.push(place);
+    Ok(())
+}
+
+/// Takes up the keys of the touches, or none where memory is wanting. The places of the touches are noted in `places`, unless memory is
+/// wanting for them.
 pub(crate) fn touch_keys<K: Copy + Eq + Hash, E: Copy>(
     keys: &mut IndexSet<K, Seeded>,
+    places: &mut Vec<usize>,
     all: &[(K, Change<E>)],
 ) -> Result<(), OutOfMemory>
     ensures ok { OnOk result (keys.new.keys ≡ touched K.eq keys.old.keys all.now) }
@@ -32,8 +49,9 @@ pub(crate) fn touch_keys<K: Copy + Eq + Hash, E: Copy>(
     ensures unique { AreDistinct K.eq keys.new }
 {
     let before = keys.len();
+    places.clear();
     for (key, _) in all {
-        if keys.insert(*key).is_err() {
+        if touch_key(keys, places, *key).is_err() {
             keys.truncate(before);
             return Err(OutOfMemory);
         }

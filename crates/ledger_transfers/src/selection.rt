@@ -38,6 +38,8 @@ pub struct Stopped {
 pub struct Selection<K: Copy + Eq + Hash, A: Account> {
     keys: IndexSet<K, Seeded>,
     table: IndexMap<K, Held<A>, Seeded>,
+    /// The places of the keys of the transfers that were touched last. They are guesses for those that are applied next.
+    places: Vec<usize>,
 }
 
 impl<K: Copy + Eq + Hash, A: Account> Model for Selection<K, A> {
@@ -69,6 +71,7 @@ impl<K: Copy + Eq + Hash, A: Account> Selection<K, A> {
         Selection {
             keys: IndexSet::with_hasher(alloc, Seeded::new(seed)),
             table: IndexMap::with_hasher(alloc, Seeded::new(seed)),
+            places: Vec::new(alloc),
         }
     }
 
@@ -92,7 +95,7 @@ impl<K: Copy + Eq + Hash, A: Account> Selection<K, A> {
     {
         let all = touches_of(alloc, transfers)?;
         let first = self.keys.len();
-        touch_keys(&mut self.keys, &all)?;
+        touch_keys(&mut self.keys, &mut self.places, &all)?;
         Ok(first..self.keys.len())
     }
 
@@ -149,7 +152,8 @@ impl<K: Copy + Eq + Hash, A: Account> Selection<K, A> {
         ensures reads { AreReadBy K.eq self.old.1 self.new.1 }
     {
         let mut verdicts = Vec::new(alloc);
-        match decide_all(alloc, &mut self.table, transfers, &mut verdicts) {
+        let guesses = self.places.as_slice();
+        match decide_all(alloc, &mut self.table, transfers, guesses, &mut verdicts) {
             Ok(()) => Ok(verdicts),
             Err(_) => Err(Stopped {
                 verdicts: List::from_vec(verdicts),

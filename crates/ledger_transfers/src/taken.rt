@@ -1,5 +1,5 @@
 //! Candidates on top of the registered keys. A candidate is tried on the keys themselves, and undone where it doesn't settle.
-ghost use Rattle.std.specs.Prelude.{◌≡◌, IfOk, OnOk, ◌<◌, OnErr, take, IsSome, length, ◌∷◌, []};
+ghost use Rattle.std.specs.Prelude.{◌≡◌, IfOk, OnOk, ◌<◌, OnErr, drop, take, IsSome, length, ◌∷◌, []};
 ghost use Rattle.std.specs.List.{All};
 ghost use Rattle.indexmap.specs.IndexMap.{get};
 ghost use Rattle.ledger_transfers.specs.Touches.{touches};
@@ -17,12 +17,24 @@ use ledger_codec::OutOfMemory;
 use std::alloc::Global;
 use std::hash::Hash;
 
+/// The guesses from the touch of this number on.
+fn guesses_from(guesses: &[usize], touch: usize) -> &[usize]
+    ensures { result.now ≡ drop touch guesses.now }
+{
+    if touch <= guesses.len() {
+        &guesses[touch..]
+    } else {
+        &[]
+    }
+}
+
 /// Takes a candidate where it settles with what was taken before. What `all` and `log` hold before and after says nothing: they keep
 /// their room for the next candidate.
 fn decide<T: Transfer<Key = K, Account = A>, K: Copy + Eq + Hash, A: Account>(
     alloc: Global,
     table: &mut IndexMap<K, Held<A>, Seeded>,
     candidate: &T,
+    guesses: &[usize],
     all: &mut Vec<(K, Change<A::Effect>)>,
     log: &mut Vec<(usize, Revision<A>)>,
 ) -> Result<bool, OutOfMemory>
@@ -33,7 +45,7 @@ fn decide<T: Transfer<Key = K, Account = A>, K: Copy + Eq + Hash, A: Account>(
 {
     log.clear();
     touches_into(candidate, all)?;
-    let Ok(taken) = try_all(alloc, table, all.as_slice(), log) else {
+    let Ok(taken) = try_all(alloc, table, all.as_slice(), guesses, log) else {
         undo_all(table, log);
         return Err(OutOfMemory);
     };
@@ -44,11 +56,13 @@ fn decide<T: Transfer<Key = K, Account = A>, K: Copy + Eq + Hash, A: Account>(
     Ok(false)
 }
 
-/// Takes each candidate where it settles with what was taken before. After want of memory the verdicts so far stand.
+/// Takes each candidate where it settles with what was taken before. After want of memory the verdicts so far stand. The guesses are
+/// of the places of all touches, in order; a wrong one costs a hash, and nothing else.
 pub(crate) fn decide_all<T: Transfer<Key = K, Account = A>, K: Copy + Eq + Hash, A: Account>(
     alloc: Global,
     table: &mut IndexMap<K, Held<A>, Seeded>,
     candidates: &[T],
+    guesses: &[usize],
     verdicts: &mut Vec<bool>,
 ) -> Result<(), OutOfMemory>
     requires registered { All (λ t. IsSome (get K.eq table.old t.0)) (touches T.changes_of candidates.now) }
@@ -60,9 +74,12 @@ pub(crate) fn decide_all<T: Transfer<Key = K, Account = A>, K: Copy + Eq + Hash,
 {
     let mut all = Vec::new(alloc);
     let mut log = Vec::new(alloc);
+    let mut touch = 0usize;
     for candidate in candidates {
         verdicts.reserve(1)?;
-        let verdict = decide(alloc, table, candidate, &mut all, &mut log)?;
+        let rest = guesses_from(guesses, touch);
+        let verdict = decide(alloc, table, candidate, rest, &mut all, &mut log)?;
+        touch = touch.saturating_add(all.len());
         let Ok(()) = verdicts.push(verdict) else {
             unreachable!();
         };

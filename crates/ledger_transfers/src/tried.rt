@@ -1,8 +1,8 @@
 //! A candidate that is tried on the registered keys. Its changes are added to their sums one by one, up to the first with which its key
 //! can't settle. A log has what each of them replaced, so that a dropped candidate is undone.
-ghost use Rattle.std.specs.Prelude.{◌≡◌, ◌∷◌, [], IfOk, OnErr, MatchOption, MatchBool, IsSome, ⊤};
+ghost use Rattle.std.specs.Prelude.{◌≡◌, ◌∷◌, [], IfOk, OnErr, MatchOption, MatchBool, IsSome, IsTrue, Some, slice_index_or, ◌↔◌, ⊤};
 ghost use Rattle.std.specs.List.{All};
-ghost use Rattle.indexmap.specs.IndexMap.{get};
+ghost use Rattle.indexmap.specs.IndexMap.{get, index_of, IsUnique};
 ghost use Rattle.ledger_transfers.specs.Revising.{undone};
 ghost use Rattle.ledger_transfers.specs.Selecting.{AreReadBy};
 ghost use Rattle.ledger_transfers.specs.Trying.{IsRevision, SettlesHeld, FailsHeld, SettlesAt, FailsAt, HasFailing, IsAdded, AreAdded, IsRefused, IsTaken};
@@ -49,21 +49,67 @@ fn revision_of<A: Account>(
     }))
 }
 
+/// Whether a key stands at a place.
+fn stands_at<K: Copy + Eq + Hash, A: Account>(
+    table: &IndexMap<K, Held<A>, Seeded>,
+    key: &K,
+    place: usize,
+) -> bool
+    ensures place { IsTrue result ↔ (index_of K.eq table.now key.now ≡ Some place) }
+    ensures unique { IsUnique K.eq table.now }
+{
+    if table.len() <= place {
+        return false;
+    }
+    let Some((stored, _)) = table.get_index(place) else {
+        return false;
+    };
+    *key == *stored
+}
+
+/// The place of a registered key. It isn't hashed where it stands at the place that is guessed.
+fn place_of<K: Copy + Eq + Hash, A: Account>(
+    table: &IndexMap<K, Held<A>, Seeded>,
+    key: &K,
+    guess: usize,
+) -> usize
+    requires { IsSome (get K.eq table.now key.now) }
+    ensures place { index_of K.eq table.now key.now ≡ Some result }
+    ensures unique { IsUnique K.eq table.now }
+{
+    if stands_at(table, key, guess) {
+        return guess;
+    }
+    let Some(place) = table.get_index_of(key) else {
+        unreachable!();
+    };
+    place
+}
+
+/// The place that is guessed for a touch, 0 where there is no guess.
+fn guess_of(guesses: &[usize], touch: usize) -> usize
+    ensures { result ≡ slice_index_or guesses.now touch 0 }
+{
+    match guesses.get(touch) {
+        Some(guess) => *guess,
+        None => 0,
+    }
+}
+
 /// Adds a change to the sums of its key, and answers what undoes it. Where the key can't settle with it, nothing changes.
 fn add_touch<K: Copy + Eq + Hash, A: Account>(
     alloc: Global,
     table: &mut IndexMap<K, Held<A>, Seeded>,
     key: &K,
     change: Change<A::Effect>,
+    guess: usize,
 ) -> Result<Option<(usize, Revision<A>)>, OutOfMemory>
     requires { IsSome (get K.eq table.old key.now) }
     ensures added { IfOk result (λ r. MatchOption r (table.new.entries ≡ table.old.entries) (IsAdded K.eq A.eq A.rules table.old.entries table.new.entries (key.now, change))) }
     ensures refused { IfOk result (λ r. MatchOption r ((more : _) → IsRefused K.eq A.eq A.rules table.old.entries ((key.now, change) ∷ more)) (λ _. ⊤)) }
     ensures err { OnErr result (table.new.entries ≡ table.old.entries) }
 {
-    let Some(place) = table.get_index_of(key) else {
-        unreachable!();
-    };
+    let place = place_of(table, key, guess);
     let Some((_, held)) = table.get_index(place) else {
         unreachable!();
     };
@@ -74,11 +120,12 @@ fn add_touch<K: Copy + Eq + Hash, A: Account>(
     Ok(Some((place, replaced)))
 }
 
-/// Adds the touches in order, up to the first with which its key can't settle.
+/// Adds the touches in order, up to the first with which its key can't settle. The guesses are of the touches' places, in order.
 fn add_all<K: Copy + Eq + Hash, A: Account>(
     alloc: Global,
     table: &mut IndexMap<K, Held<A>, Seeded>,
     all: &[(K, Change<A::Effect>)],
+    guesses: &[usize],
     log: &mut Vec<(usize, Revision<A>)>,
 ) -> Result<bool, OutOfMemory>
     requires registered { All (λ t. IsSome (get K.eq table.old t.0)) all.now }
@@ -89,7 +136,8 @@ fn add_all<K: Copy + Eq + Hash, A: Account>(
 {
     for (key, change) in all {
         log.reserve(1)?;
-        let Some(entry) = add_touch(alloc, table, key, *change)? else {
+        let guess = guess_of(guesses, log.len());
+        let Some(entry) = add_touch(alloc, table, key, *change, guess)? else {
             return Ok(false);
         };
         let Ok(()) = log.push(entry) else {
@@ -145,6 +193,7 @@ pub(crate) fn try_all<K: Copy + Eq + Hash, A: Account>(
     alloc: Global,
     table: &mut IndexMap<K, Held<A>, Seeded>,
     all: &[(K, Change<A::Effect>)],
+    guesses: &[usize],
     log: &mut Vec<(usize, Revision<A>)>,
 ) -> Result<bool, OutOfMemory>
     requires registered { All (λ t. IsSome (get K.eq table.old t.0)) all.now }
@@ -153,7 +202,7 @@ pub(crate) fn try_all<K: Copy + Eq + Hash, A: Account>(
     ensures same_reads { AreReadBy K.eq table.old.entries table.new.entries }
     ensures taken { IfOk result (λ r. MatchBool r (IsTaken K.eq A.eq A.rules table.old.entries table.new.entries all.now) (IsRefused K.eq A.eq A.rules table.old.entries all.now)) }
 {
-    if !add_all(alloc, table, all, log)? {
+    if !add_all(alloc, table, all, guesses, log)? {
         return Ok(false);
     }
     Ok(all_settle(table, log.as_slice()))
