@@ -1,5 +1,5 @@
 //! Whether the configured failures came to anything.
-ghost use Rattle.std.specs.Prelude.{◌≡◌, ◌+◌, ◌-◌, ◌^◌, IfOk, false, min, replicate, slice_get, unwrap_or};
+ghost use Rattle.std.specs.Prelude.{◌≡◌, ◌+◌, ◌-◌, ◌^◌, IfOk, false, min, replicate, set, slice_get, true, unwrap_or};
 ghost use Rattle.ledger_simulate.specs.Exercise.{is_unexercised, unexercised_from};
 
 use ledger_codec::OutOfMemory;
@@ -42,6 +42,7 @@ impl Exercise {
 
     /// Marks the window of the configured failure at this place as entered.
     pub fn enter(&mut self, index: usize)
+        ensures entered { self.new.entered.items ≡ set self.old.entered.items index true }
         ensures started { self.new.delayed_started ≡ self.old.delayed_started }
     {
         if index < self.entered.len() {
