@@ -79,6 +79,7 @@ impl<'a, D: EngineDefinition> Simulation<'a, D> {
         ensures links { IfOk result (λ s. (common_link s.world.links ≡ plan.now.link) × (changed_links s.world.links ≡ [])) }
         ensures queue { IfOk result (λ s. (polls : Bool) × (plan.now.exit_condition ≡ None → polls ≡ false) × (s.queue ≡ queued_all empty_queue 0 (opening plan.now.participants plan.now.crashes polls))) }
         ensures started { IfOk result (λ s. s.world.exercise.delayed_started ≡ false) }
+        ensures rules { IfOk result (λ s. IfSome (D.carried_size plan.now.engine) (λ told. s.world.rules.max_size ≡ told) × IfSome (D.carried_on plan.now.engine) (λ told. s.world.rules.channels.items ≡ told)) }
         ensures seated { IfOk result (λ s. Seated (D.peer_of plan.now.engine) s.queue.next s.world.seats.entries) }
     {
         let mut world = World::new(alloc, plan, Pcg32::seed_from_u64(seed))?;

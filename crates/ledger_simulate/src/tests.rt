@@ -44,13 +44,17 @@ struct Script {
 }
 
 impl EngineDefinition for Script {
-    ghost use Rattle.std.specs.Prelude.{None};
+    ghost use Rattle.std.specs.Prelude.{◌∷◌, [], None, Some};
 
     type Engine = Peer;
 
     type State = Log;
 
     ghost peer_of = { λ _ engine. engine };
+
+    ghost carried_on = { λ _. Some (0 ∷ []) };
+
+    ghost carried_size = { λ _. Some 64 };
 
     ghost made = { λ _ _ _. Unit {0} };
 
@@ -327,13 +331,17 @@ fn handles_events_by_time(rt: HostRuntime) -> Result<(), OutOfMemory> {
 struct Gossip;
 
 impl EngineDefinition for Gossip {
-    ghost use Rattle.std.specs.Prelude.{None};
+    ghost use Rattle.std.specs.Prelude.{◌∷◌, [], None, Some};
 
     type Engine = Peer;
 
     type State = bool;
 
     ghost peer_of = { λ _ engine. engine };
+
+    ghost carried_on = { λ _. Some (0 ∷ []) };
+
+    ghost carried_size = { λ _. Some 64 };
 
     ghost made = { λ _ _ _. Unit {0} };
 

@@ -1,5 +1,5 @@
 //! The engines of a run and what surrounds them.
-ghost use Rattle.std.specs.Prelude.{◌≡◌, ◌⊎◌, ◌<◌, ◌++◌, ◌∷◌, ◌||◌, [], ℕ, IfErr, IfOk, IsTrue, OnOk, false, filter, length, nat_lt, option_map, unwrap_or, vec_len};
+ghost use Rattle.std.specs.Prelude.{◌≡◌, ◌⊎◌, ◌<◌, ◌++◌, ◌∷◌, ◌||◌, [], ℕ, IfErr, IfOk, IfSome, IsTrue, OnOk, false, filter, length, nat_lt, option_map, unwrap_or, vec_len};
 ghost use Rattle.std.specs.List.{list_any};
 ghost use Rattle.rand_pcg.specs.Lcg.{Lcg};
 ghost use Rattle.simulate_parts.specs.Seats.{stopped};
@@ -49,6 +49,7 @@ impl<D: EngineDefinition> World<D> {
         ensures seats { IfOk result (λ w. w.seats.entries ≡ []) }
         ensures words { IfOk result (λ w. w.words ≡ words) }
         ensures started { IfOk result (λ w. w.exercise.delayed_started ≡ false) }
+        ensures rules { IfOk result (λ w. IfSome (D.carried_size plan.now.engine) (λ told. w.rules.max_size ≡ told) × IfSome (D.carried_on plan.now.engine) (λ told. w.rules.channels.items ≡ told)) }
         ensures links { IfOk result (λ w. (common_link w.links ≡ plan.now.link) × (changed_links w.links ≡ [])) }
     {
         Ok(World {

@@ -151,15 +151,20 @@ pub struct StateView {
 
 /// The engines of a run: how they are made and stepped.
 ///
-/// Beside its calls a definition tells the peer of an engine, and it may tell contracts three things: what
-/// `init` makes of a context, a test that each reported block passes, and the journal of an engine, which
-/// is the list of the events that it was stepped with and of what it gave.
+/// Beside its calls a definition tells the peer of an engine, and it may tell contracts five things: the
+/// channels, the greatest size of a message, what `init` makes of a context, a test that each reported block
+/// passes, and the journal of an engine, which is the list of the events that it was stepped with and of what
+/// it gave.
 pub trait EngineDefinition: Drop {
     type Engine: Drop;
 
     type State: ProcessedHeight;
 
     ghost peer_of: { Self → Self.Engine → Peer };
+
+    ghost carried_on: { Self → Option (List ℕ) };
+
+    ghost carried_size: { Self → Option ℕ };
 
     ghost made: { Self → InitContext → Self.Engine → Type 0 };
 
@@ -172,10 +177,12 @@ pub trait EngineDefinition: Drop {
         ensures { IfOk result (λ peers. DistinctPeers peers.items) };
 
     /// The channels on which messages may be sent.
-    fn channels(&self, alloc: Global) -> Result<Vec<u64>, OutOfMemory>;
+    fn channels(&self, alloc: Global) -> Result<Vec<u64>, OutOfMemory>
+        ensures { IfOk result (λ channels. IfSome (carried_on self.now) (λ told. channels.items ≡ told)) };
 
     /// The greatest size of a message in bytes.
-    fn max_message_size(&self) -> u32;
+    fn max_message_size(&self) -> u32
+        ensures { IfSome (carried_size self.now) (λ told. result ≡ told) };
 
     /// Makes an engine and its state.
     fn init(

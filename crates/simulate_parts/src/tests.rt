@@ -146,13 +146,17 @@ fn draws_delays(rt: HostRuntime) {
 struct Idle;
 
 impl EngineDefinition for Idle {
-    ghost use Rattle.std.specs.Prelude.{None};
+    ghost use Rattle.std.specs.Prelude.{[], None, Some};
 
     type Engine = Peer;
 
     type State = bool;
 
     ghost peer_of = { λ _ engine. engine };
+
+    ghost carried_on = { λ _. Some [] };
+
+    ghost carried_size = { λ _. Some 0 };
 
     ghost made = { λ _ _ _. Unit {0} };
 
