@@ -5,7 +5,7 @@
 //!             |                      |
 //!      session's fault      no log, no account, no settled block
 //! ```
-ghost use Rattle.std.specs.Prelude.{◌≡◌, IfOk, IfErr, IsOkUnless, IsTrue};
+ghost use Rattle.std.specs.Prelude.{◌≡◌, IfOk, IfErr, OnOk, IsOkUnless, IsTrue};
 ghost use Rattle.ledger_program.specs.Follow.{beginning, Follows, FollowFails, FollowsLog, AreAmounts, IsValid, LeavesCount, IsSteady, MayStop, fault_of_sync};
 ghost use Rattle.ledger_codec.specs.Causes.{Rose};
 ghost use Rattle.ledger_log.specs.Any.{any_spelling, IsSoundAny};
@@ -50,7 +50,7 @@ fn sync_fault(fault: SyncFault) -> Fault
 
 /// Fetches the target's range over the link, replays its accounts, and settles the blocks on it, one after
 /// another. The report has what was fetched, what the blocks made of it, and the accounts and verdicts.
-/// After a fault no log is handed out. Request numbers begin at 1.
+/// After a fault no log is handed out. Request numbers begin at 1. After Ok a link that serves owes nothing again.
 pub fn follow<
     R: RandomSource + Threads + Sync,
     T: Transfer<Key = Key, Account = A>,
@@ -72,6 +72,7 @@ pub fn follow<
     ensures one_way { SessionLaws (beginning target.now limits.now (L.wire link.old) (L.faults link.old)).rules (beginning target.now limits.now (L.wire link.old) (L.faults link.old)).start }
     ensures serving { (held : LogData) → (h : Serves any_spelling IsSoundAny held target.now) → OwesNothing held (L.service link.old) → FollowsLog (meaning T.changes_of A.eq A.rules A.values) h.log target.now blocks.now result }
     ensures complete { (held : LogData) → (h : Serves any_spelling IsSoundAny held target.now) → OwesNothing held (L.service link.old) → AreAmounts (meaning T.changes_of A.eq A.rules A.values) → IsValid (meaning T.changes_of A.eq A.rules A.values) h.log target.now blocks.now → (Rose (L.faults link.old) (L.faults link.new) → ⊥) → IsOkUnless result Fault.OutOfMemory }
+    ensures rests { (held : LogData) → Serves any_spelling IsSoundAny held target.now → OwesNothing held (L.service link.old) → OnOk result (OwesNothing held (L.service link.new)) }
     ensures exact_count { IsTrue L.exact → LeavesCount result (L.faults link.old) (L.faults link.new) }
     ensures steady_on { L.steady link.old → L.steady link.new × IsSteady result (L.faults link.old) (L.faults link.new) }
 {

@@ -1,5 +1,5 @@
 //! The call that does what the words say, over a job that is read and a sink that is written to.
-ghost use Rattle.std.specs.Prelude.{◌≡◌, ◌≤◌, ◌==◌, ◌⊎◌, Option, Some, None, true, not, map, IfOk, IfErr, IfSome, IsSome, OnOk, string_bytes};
+ghost use Rattle.std.specs.Prelude.{◌≡◌, ◌≤◌, ◌==◌, ◌⊎◌, Option, Some, None, true, false, not, map, IfOk, IfErr, IfSome, IsSome, OnOk, string_bytes};
 ghost use Rattle.std.specs.Io.KnownBytes.{IsAtEnd};
 ghost use Rattle.ledger_codec.specs.Causes.{Rose};
 ghost use Rattle.ledger_program.specs.ErrorLines.{line_of};
@@ -69,6 +69,7 @@ fn attempt<R: RandomSource + Threads + Sync, S: Source>(
     ensures ended { OnOk result (IsAtEnd (S.left source.new)) }
     ensures fails { IfErr result (Attempted (is_form (map string_bytes words.now)) (S.left source.old) (S.faults source.old) (S.faults source.new)) }
     ensures read { IfErr result (λ fault. is_read (Some fault) ≡ true → IsAtEnd (S.left source.new)) }
+    ensures unread { is_form (map string_bytes words.now) ≡ false → source.new ≡ source.old }
 {
     if !is_form(words) {
         return Err(RunFault::Usage);
@@ -172,6 +173,7 @@ fn act<R: RandomSource + Threads + Sync, S: Source, K: Sink>(
     ensures caused { IfSome result.fault (Caused (is_form (map string_bytes words.now)) (S.left job.old) (S.faults job.old) (S.faults job.new) (K.faults out.old) (K.faults out.new)) }
     ensures read { is_read result.fault ≡ true → IsAtEnd (S.left job.new) }
     ensures wrote { Wrote (K.written out.old) (K.written out.new) result.report result.fault }
+    ensures unread { is_form (map string_bytes words.now) ≡ false → job.new ≡ job.old }
 {
     match attempt(rt, alloc, words, job) {
         Ok(report) => printed(alloc, report, out),
@@ -180,7 +182,7 @@ fn act<R: RandomSource + Threads + Sync, S: Source, K: Sink>(
 }
 
 /// Does what the words say, over the job that is read, and prints the report, or the line that says why
-/// there is none. The dialer isn't called with `local`.
+/// there is none. Words that are no form leave the job unread, and the dialer isn't called with `local`.
 pub fn run<R: RandomSource + Threads + Sync, S: Source, D: Dialer, K: Sink>(
     rt: &R,
     alloc: Global,
@@ -198,6 +200,8 @@ pub fn run<R: RandomSource + Threads + Sync, S: Source, D: Dialer, K: Sink>(
     ensures caused { IfSome result.fault (Caused (is_form (map string_bytes words.now)) (S.left job.old) (S.faults job.old) (S.faults job.new) (K.faults out.old) (K.faults out.new)) }
     ensures read { is_read result.fault ≡ true → IsAtEnd (S.left job.new) }
     ensures wrote { Wrote (K.written out.old) (K.written out.new) result.report result.fault }
+    ensures unread { is_form (map string_bytes words.now) ≡ false → job.new ≡ job.old }
+    ensures undialed { _dialer.new ≡ _dialer.old }
 {
     act(rt, alloc, words, job, out)
 }

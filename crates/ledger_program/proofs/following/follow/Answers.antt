@@ -62,3 +62,9 @@ returns-clause-complete g c held h told amounts valid still =
     let o = beginning c.args.target.now c.args.limits.now (g.L.Link.wire c.args.link.now) (g.L.Link.faults c.args.link.now) in
     only_memory m h.log c.args.target.now c.args.blocks.now o (g.L.Link.wire c.sync_hashed.new.link) (g.L.Link.faults c.sync_hashed.new.link) c.from.result amounts valid still
     (returns-clause-serving g c held h told) (returns-clause-fails g c)
+
+pub returns-in-Ok-report_of-clause-rests : goal.returns-in-Ok-report_of-clause-rests
+returns-in-Ok-report_of-clause-rests g c held h told =
+    let e = c.new-machine.ensures ∙ ap idle c.new.ensures in
+    let own = c.in-Ok.ensures.serving held any_sent h (begins_so held c.new-machine.result _ e told) in
+    own.told
