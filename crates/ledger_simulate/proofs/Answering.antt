@@ -1,9 +1,8 @@
 -- What checks answered, said of more.
-use Rattle.std.proofs.Common.{◌≡◌, ◌<◌, ◌⊎◌, inl, inr, ◌++◌, ℕ, Bool, List, [], ◌∷◌, MatchOption, Option, Some, None, Contains, IfErr, Result, Ok, Err, drop, length, get_or, refl, sym, ap, ◌∙◌, subst}
+use Rattle.std.proofs.Common.{◌≡◌, ◌<◌, ◌⊎◌, inl, inr, ◌++◌, ℕ, Bool, List, [], ◌∷◌, MatchOption, Option, Some, None, All, Contains, IfErr, IfSome, Result, Ok, Err, drop, length, get_or, refl, sym, ap, ◌∙◌, subst}
 use Rattle.std.proofs.lemmas.List.{append_assoc, append-nil}
 use Rattle.std.proofs.Math.Seq.{drop-append_seam}
-use Rattle.std.proofs.lemmas.List.Elements.{Contains-get_or}
-use Rattle.simulate_parts.specs.Seats.{active_views}
+use Rattle.std.proofs.lemmas.List.Elements.{All-contains, Contains-get_or}
 use Rattle.simulate_parts.specs.Tracker.{observe_fault, tracker_of}
 use Rattle.simulate_parts.specs.TrackerView.{TrackerView}
 use Rattle.simulate_parts.specs.declared.engine.StateView.{StateView}
@@ -11,19 +10,19 @@ use Rattle.simulate_parts.specs.declared.engine.StepEvent.{StepEvent}
 use Rattle.simulate_parts.specs.declared.engine.StepOut.{StepOut}
 use Rattle.simulate_parts.specs.declared.peer.Peer.{Peer}
 use Rattle.simulate_parts.specs.declared.schedule.Crash.{Crash}
+use Rattle.simulate_parts.specs.declared.seats.Seat.{Seat}
 use Rattle.simulate_parts.specs.declared.tracker.FinalizationUpdate.{FinalizationUpdate}
 use Rattle.simulate_parts.specs.declared.tracker.ObserveFault.{ObserveFault}
-use Rattle.ledger_simulate.specs.Answering.{Answered, Beholds, Ends, EndsAt, Fails, IsComplaint, IsFailure, IsObjection, Objects, Sees, StopAnswered}
-use Rattle.ledger_simulate.specs.Causes.{Skips}
+use Rattle.ledger_simulate.specs.Answering.{Answered, Asked, Asks, Ends, EndsAt, Fails, IsComplaint, IsFailure, IsObjection, MetOn, Objects, ReportsThen, SeesAfter, SkipsAfter, StopAnswered}
+use Rattle.ledger_simulate.specs.Causes.{IsSkip}
 use Rattle.ledger_simulate.specs.Delays.{started_by, started_where}
 use Rattle.ledger_simulate.specs.declared.reports.Reached.{Reached}
-use Rattle.ledger_simulate.specs.Handling.{Disturbs, Handles, told_by, told_first}
+use Rattle.ledger_simulate.specs.Handling.{Handles, told_by, told_first}
 use Rattle.ledger_simulate.specs.Plans.{target_count}
 use Rattle.ledger_simulate.specs.Queue.{AgendaView, QueueView, empty_agenda}
 use Rattle.ledger_simulate.specs.Reaching.{IsReached}
 use Rattle.ledger_simulate.specs.declared.event.Event.{Event}
 use Rattle.ledger_simulate.specs.declared.world.World.{World}
-use Rattle.ledger_simulate.proofs.Stirring.{disturbs_none, disturbs_then}
 use Rattle.ledger_simulate.specs.Stops.{IsExitFault, IsFinalizationFault, IsForkOf, IsPropertyFault}
 use Rattle.ledger_simulate.proofs.Causing.{same_end}
 use Rattle.ledger_simulate.specs.declared.fault.PlanFault.{PlanFault}
@@ -83,71 +82,42 @@ fault_shown {A} end whole e is shown = ap (λ (x : EndedView). x.fault) (same_en
 pub agenda_begun : (before rest : QueueView) (entry : (ℕ × ℕ) × Event) (start : AgendaView) → before ≡ record rest { entries = entry ∷ rest.entries } → start ≡ empty_agenda rest.next → start ≡ empty_agenda before.next
 agenda_begun before rest entry start taken nothing = nothing ∙ ap empty_agenda (sym (ap (λ (q : QueueView). q.next) taken))
 
-module _ {D E S : Type 0} (peer_of : E → Peer) (height : S → ℕ) (shown : S → List ℕ) where
-  -- seen of the same world, after these reports
-  pub sees_now : (a : AgendaView) (u : World D E S) (updates more : List FinalizationUpdate) (states : List StateView) → (more ≡ []) × (states ≡ active_views height shown u.seats.entries) → Sees peer_of height shown a u updates (updates ++ more) states
-  sees_now a u updates more states is = record {
-    rest = [];
-    reported = sym (append-nil (updates ++ more) ∙ ap (λ us. updates ++ us) is.0 ∙ append-nil updates);
-    made = a;
-    world = u;
-    disturbs = disturbs_none peer_of a u;
-    are = is.1;
-  }
+-- the states that checks see at a report of a step that handles the event that was taken off
+pub sees_begun : {D E S : Type 0} (peer_of : E → Peer) (journal : Option (E → List (StepEvent × StepOut))) (reports : Option (FinalizationUpdate → Bool)) (height : S → ℕ) (shown : S → List ℕ) (participants : List Peer) (crashes : List Crash) (holds : List (Peer × Seat D E S) → Type 0) (before rest : QueueView) (entry : (ℕ × ℕ) × Event) (start : AgendaView) (u : World D E S) (more : List FinalizationUpdate) (states : List StateView) → before ≡ record rest { entries = entry ∷ rest.entries } → start ≡ empty_agenda rest.next → SeesAfter peer_of journal reports height shown participants crashes holds (told_by entry.0 entry.1) start u more states → SeesAfter peer_of journal reports height shown participants crashes holds (told_first before) (empty_agenda before.next) u more states
+sees_begun peer_of journal reports height shown participants crashes holds before rest entry start u more states taken nothing sees =
+    subst (λ t. SeesAfter peer_of journal reports height shown participants crashes holds t (empty_agenda before.next) u more states) (sym (ap told_first taken))
+    (subst (λ a. SeesAfter peer_of journal reports height shown participants crashes holds (told_by entry.0 entry.1) a u more states) (agenda_begun before rest entry start taken nothing) sees)
 
-  -- seen of the same world, with all of these reports
-  pub sees_whole : (a : AgendaView) (u : World D E S) (updates more : List FinalizationUpdate) (states : List StateView) → (more ≡ updates) × (states ≡ active_views height shown u.seats.entries) → Sees peer_of height shown a u updates more states
-  sees_whole a u updates more states is = record {
-    rest = [];
-    reported = sym is.0 ∙ sym (append-nil more);
-    made = a;
-    world = u;
-    disturbs = disturbs_none peer_of a u;
-    are = is.1;
-  }
+-- how the exit condition is asked in such a step
+pub asks_begun : {D E S : Type 0} (peer_of : E → Peer) (journal : Option (E → List (StepEvent × StepOut))) (reports : Option (FinalizationUpdate → Bool)) (height : S → ℕ) (shown : S → List ℕ) (participants : List Peer) (crashes : List Crash) (holds : List (Peer × Seat D E S) → Type 0) (before rest : QueueView) (entry : (ℕ × ℕ) × Event) (start : AgendaView) (us : List FinalizationUpdate) (u : World D E S) (more : List FinalizationUpdate) (states : List StateView) (target : ℕ) → before ≡ record rest { entries = entry ∷ rest.entries } → start ≡ empty_agenda rest.next → Asks peer_of journal reports height shown participants crashes holds (told_by entry.0 entry.1) us start u more states target → Asks peer_of journal reports height shown participants crashes holds (told_first before) us (empty_agenda before.next) u more states target
+asks_begun peer_of journal reports height shown participants crashes holds before rest entry start us u more states target taken nothing (inl polled, counts) = (inl (ap told_first taken ∙ polled.0, polled.1, polled.2), counts)
+asks_begun peer_of journal reports height shown participants crashes holds before rest entry start us u more states target taken nothing (inr sees, counts) =
+    (inr (sees_begun peer_of journal reports height shown participants crashes holds before rest entry start u more states taken nothing sees), counts)
 
-  -- seen after failures
-  pub sees_then : (a b : AgendaView) (u v : World D E S) (updates more : List FinalizationUpdate) (states : List StateView) → Disturbs peer_of a b u v → Sees peer_of height shown b v updates more states → Sees peer_of height shown a u updates more states
-  sees_then a b u v updates more states disturbs sees = record {
-    rest = sees.rest;
-    reported = sees.reported;
-    made = sees.made;
-    world = sees.world;
-    disturbs = disturbs_then peer_of a b sees.made u v sees.world disturbs sees.disturbs;
-    are = sees.are;
-  }
+-- a report of a step that handles the event that was taken off
+pub reports_begun : {D E S : Type 0} (peer_of : E → Peer) (journal : Option (E → List (StepEvent × StepOut))) (reports : Option (FinalizationUpdate → Bool)) (before rest : QueueView) (entry : (ℕ × ℕ) × Event) (start : AgendaView) (u : World D E S) (more : List FinalizationUpdate) (update : FinalizationUpdate) → before ≡ record rest { entries = entry ∷ rest.entries } → start ≡ empty_agenda rest.next → ReportsThen peer_of journal reports (told_by entry.0 entry.1) start u more update → ReportsThen peer_of journal reports (told_first before) (empty_agenda before.next) u more update
+reports_begun peer_of journal reports before rest entry start u more update taken nothing came =
+    subst (λ t. ReportsThen peer_of journal reports t (empty_agenda before.next) u more update) (sym (ap told_first taken))
+    (subst (λ a. ReportsThen peer_of journal reports (told_by entry.0 entry.1) a u more update) (agenda_begun before rest entry start taken nothing) came)
 
-  -- seen after a report that others come before and behind
-  pub sees_among : (a : AgendaView) (u : World D E S) (update : FinalizationUpdate) (done left rest all more : List FinalizationUpdate) (states : List StateView) → done ++ left ≡ all → left ≡ update ∷ rest → Sees peer_of height shown a u (update ∷ []) more states → Sees peer_of height shown a u all (done ++ more) states
-  sees_among a u update done left rest all more states whole first sees =
-      let one : update ∷ rest ≡ (more ++ sees.rest) ++ rest = ap (λ us. us ++ rest) sees.reported in
-      record {
-        rest = sees.rest ++ rest;
-        reported = sym whole ∙ ap (λ us. done ++ us) (first ∙ one ∙ append_assoc more sees.rest rest) ∙ sym (append_assoc done more (sees.rest ++ rest));
-        made = sees.made;
-        world = sees.world;
-        disturbs = sees.disturbs;
-        are = sees.are;
-      }
-
--- a moment of a step that handles the event that was taken off
-pub beholds_begun : {D E S : Type 0} (peer_of : E → Peer) (journal : Option (E → List (StepEvent × StepOut))) (reports : Option (FinalizationUpdate → Bool)) (height : S → ℕ) (shown : S → List ℕ) (before rest : QueueView) (entry : (ℕ × ℕ) × Event) (start : AgendaView) (u : World D E S) (more : List FinalizationUpdate) (states : List StateView) → before ≡ record rest { entries = entry ∷ rest.entries } → start ≡ empty_agenda rest.next → Beholds peer_of journal reports height shown (told_by entry.0 entry.1) start u more states → Beholds peer_of journal reports height shown (told_first before) (empty_agenda before.next) u more states
-beholds_begun peer_of journal reports height shown before rest entry start u more states taken nothing beheld =
-    subst (λ t. Beholds peer_of journal reports height shown t (empty_agenda before.next) u more states) (sym (ap told_first taken))
-    (subst (λ a. Beholds peer_of journal reports height shown (told_by entry.0 entry.1) a u more states) (agenda_begun before rest entry start taken nothing) beheld)
+-- a window that was skipped in such a step
+pub skips_begun : {D E S : Type 0} (peer_of : E → Peer) (journal : Option (E → List (StepEvent × StepOut))) (reports : Option (FinalizationUpdate → Bool)) (height : S → ℕ) (participants : List Peer) (crashes : List Crash) (holds : List (Peer × Seat D E S) → Type 0) (before rest : QueueView) (entry : (ℕ × ℕ) × Event) (start : AgendaView) (u : World D E S) (skipped : ℕ) → before ≡ record rest { entries = entry ∷ rest.entries } → start ≡ empty_agenda rest.next → SkipsAfter peer_of journal reports height participants crashes holds (told_by entry.0 entry.1) start u skipped → SkipsAfter peer_of journal reports height participants crashes holds (told_first before) (empty_agenda before.next) u skipped
+skips_begun peer_of journal reports height participants crashes holds before rest entry start u skipped taken nothing skips =
+    subst (λ t. SkipsAfter peer_of journal reports height participants crashes holds t (empty_agenda before.next) u skipped) (sym (ap told_first taken))
+    (subst (λ a. SkipsAfter peer_of journal reports height participants crashes holds (told_by entry.0 entry.1) a u skipped) (agenda_begun before rest entry start taken nothing) skips)
 
 -- what is left of a list, one element on
 pub left_more : (done left rest all : List FinalizationUpdate) (update : FinalizationUpdate) → done ++ left ≡ all → left ≡ update ∷ rest → (done ++ update ∷ []) ++ rest ≡ all
 left_more done left rest all update whole first = append_assoc done (update ∷ []) rest ∙ ap (λ us. done ++ us) (sym first) ∙ whole
 
 -- a run whose first event was handled and whose exit condition was met
-pub ends_of : {D E S C : Type 0} (peer_of : E → Peer) (journal : Option (E → List (StepEvent × StepOut))) (reports : Option (FinalizationUpdate → Bool)) (verdict : C → TrackerView → List StateView → ℕ → Result Bool (List ℕ)) (condition : Option C) (required : ℕ) (participants : List Peer) (crashes : List Crash) (queue left : QueueView) (entry : (ℕ × ℕ) × Event) (start made : AgendaView) (us vs done more : List FinalizationUpdate) (u w : World D E S) (states : List StateView) (reached : Reached) → queue ≡ record left { entries = entry ∷ left.entries } → start ≡ empty_agenda left.next → Handles peer_of journal reports entry.0 entry.1 start made us vs u w → IsReached verdict condition required (target_count participants crashes w.exercise.delayed_started) vs reached → w.exercise.delayed_started ≡ started_by participants crashes us u.exercise.delayed_started (drop (length us) vs) (Some reached) → vs ≡ us ++ done → EndsAt reached.states.items more states → Ends peer_of journal reports verdict condition required participants crashes queue us u (done ++ more) states
-ends_of peer_of journal reports verdict condition required participants crashes queue left entry start made us vs done more u w states reached taken nothing handled met started since over =
+abbrev pub ends_of : {D E S C : Type 0} (peer_of : E → Peer) (journal : Option (E → List (StepEvent × StepOut))) (reports : Option (FinalizationUpdate → Bool)) (height : S → ℕ) (shown : S → List ℕ) (holds : List (Peer × Seat D E S) → Type 0) (verdict : C → TrackerView → List StateView → ℕ → Result Bool (List ℕ)) (condition : Option C) (required : ℕ) (participants : List Peer) (crashes : List Crash) (queue left : QueueView) (entry : (ℕ × ℕ) × Event) (start made : AgendaView) (us vs done more : List FinalizationUpdate) (u w : World D E S) (states : List StateView) (reached : Reached) → queue ≡ record left { entries = entry ∷ left.entries } → start ≡ empty_agenda left.next → Handles peer_of journal reports height participants crashes holds (Some reached) entry.0 entry.1 start made us vs u w → IsReached verdict condition required (target_count participants crashes w.exercise.delayed_started) vs reached → w.exercise.delayed_started ≡ started_by participants crashes us u.exercise.delayed_started (drop (length us) vs) (Some reached) → IfSome (Some reached) (MetOn (Asked peer_of journal reports height shown participants crashes holds (told_by entry.0 entry.1) start u) us) → vs ≡ us ++ done → EndsAt reached.states.items more states → Ends peer_of journal reports height shown holds verdict condition required participants crashes queue us u (done ++ more) states
+ends_of peer_of journal reports height shown holds verdict condition required participants crashes queue left entry start made us vs done more u w states reached taken nothing handled met started seen since over =
     let whole : done ≡ done ++ more = sym (append-nil done) ∙ ap (λ xs. done ++ xs) (sym over.0) in
     let same : vs ≡ us ++ (done ++ more) = since ∙ ap (λ xs. us ++ xs) whole in
     let newer : drop (length us) vs ≡ done ++ more = ap (drop (length us)) same ∙ drop-append_seam us (done ++ more) in
-    let begun : Handles peer_of journal reports entry.0 entry.1 (empty_agenda queue.next) made us vs u w =
-    subst (λ a. Handles peer_of journal reports entry.0 entry.1 a made us vs u w) (agenda_begun queue left entry start taken nothing) handled in
+    let begun : Handles peer_of journal reports height participants crashes holds (Some reached) entry.0 entry.1 (empty_agenda queue.next) made us vs u w =
+    subst (λ a. Handles peer_of journal reports height participants crashes holds (Some reached) entry.0 entry.1 a made us vs u w) (agenda_begun queue left entry start taken nothing) handled in
     let counted : w.exercise.delayed_started ≡ started_where participants crashes us u.exercise.delayed_started reached.count (done ++ more) =
     started ∙ ap (started_where participants crashes us u.exercise.delayed_started reached.count) newer in
     record {
@@ -156,10 +126,11 @@ ends_of peer_of journal reports verdict condition required participants crashes 
       first = ap (λ (q : QueueView). q.entries) taken;
       made = made;
       after = w;
-      handles = subst (λ xs. Handles peer_of journal reports entry.0 entry.1 (empty_agenda queue.next) made us xs u w) same begun;
       reached = reached;
+      handles = subst (λ xs. Handles peer_of journal reports height participants crashes holds (Some reached) entry.0 entry.1 (empty_agenda queue.next) made us xs u w) same begun;
       met = subst (λ b. IsReached verdict condition required (target_count participants crashes b) (us ++ (done ++ more)) reached) counted
           (subst (λ xs. IsReached verdict condition required (target_count participants crashes w.exercise.delayed_started) xs reached) same met);
+      seen = subst (λ a. MetOn (Asked peer_of journal reports height shown participants crashes holds (told_by entry.0 entry.1) a u) us reached) (agenda_begun queue left entry start taken nothing) seen;
       are = over.1;
     }
 
@@ -204,9 +175,27 @@ module _ {F P C : Type 0} (fname : F → List ℕ) (fsays : F → List StateView
       by_fault (Some fault) (inr fork) = subst (StopAnswered fname fsays pname psays cname csays checks properties condition seen asked ended before) (sym fork) tt
 
   -- a window that was skipped
-  pub answered_skips : (crashes : List Crash) (before : List FinalizationUpdate) (s : Stop) → (s ≡ OutOfMemory) ⊎ ((height : ℕ) × (s ≡ Fault (SkippedWindow height)) × Skips crashes height) → StopAnswered fname fsays pname psays cname csays checks properties condition seen asked ended before s
-  answered_skips crashes before s (inl is) = answered_short before s is
-  answered_skips crashes before s (inr skips) = subst (StopAnswered fname fsays pname psays cname csays checks properties condition seen asked ended before) (sym skips.1) tt
+  pub answered_skips : (skipped : ℕ → Type 0) (before : List FinalizationUpdate) (s : Stop) → IsSkip skipped s → StopAnswered fname fsays pname psays cname csays checks properties condition seen asked ended before s
+  answered_skips skipped before s (inl is) = answered_short before s is
+  answered_skips skipped before s (inr skips) = subst (StopAnswered fname fsays pname psays cname csays checks properties condition seen asked ended before) (sym skips.1) tt
+
+  -- checks that answer Ok don't complain
+  pub answered_sound : (wider : List FinalizationUpdate → List StateView → Type 0) (wider_ask : List FinalizationUpdate → List StateView → ℕ → Type 0) (wider_end : List FinalizationUpdate → List StateView → Type 0) (before : List FinalizationUpdate) (views : List StateView) (s : Stop) → All (λ p. fsays p views ≡ None) checks → ((m : List FinalizationUpdate) (v : List StateView) → seen m v → v ≡ views) → ((m : List FinalizationUpdate) (v : List StateView) (n : ℕ) → asked m v n → ⊥) → ((m : List FinalizationUpdate) (v : List StateView) → ended m v → ⊥) → StopAnswered fname fsays pname psays cname csays checks properties condition seen asked ended before s → StopAnswered fname fsays pname psays cname csays checks properties condition wider wider_ask wider_end before s
+  answered_sound wider wider_ask wider_end before views OutOfMemory sound at none_asked none_ended said = tt
+  answered_sound wider wider_ask wider_end before views (Fault (FinalizationProperty name text)) sound at none_asked none_ended said =
+      let complains = said.3 in
+      absurd (some_none (sym (ap (fsays complains.check) (at said.0 said.1 said.2)) ∙ complains.says) (All-contains (λ p. fsays p views ≡ None) checks complains.check sound complains.among))
+    where
+      some_none : {o : Option (List ℕ)} → o ≡ Some text → o ≡ None → ⊥
+      some_none some none = cc
+  answered_sound wider wider_ask wider_end before views (Fault (Property name text)) sound at none_asked none_ended said = absurd (none_ended said.0 said.1 said.2)
+  answered_sound wider wider_ask wider_end before views (Fault (Exit name text)) sound at none_asked none_ended said = absurd (none_asked said.0 said.1 said.2 said.3)
+  answered_sound wider wider_ask wider_end before views (Fault (Fork update fault)) sound at none_asked none_ended said = tt
+  answered_sound wider wider_ask wider_end before views (Fault Timeout) sound at none_asked none_ended said = tt
+  answered_sound wider wider_ask wider_end before views (Fault EventLimit) sound at none_asked none_ended said = tt
+  answered_sound wider wider_ask wider_end before views (Fault Idle) sound at none_asked none_ended said = tt
+  answered_sound wider wider_ask wider_end before views (Fault (SkippedWindow height)) sound at none_asked none_ended said = tt
+  answered_sound wider wider_ask wider_end before views (Fault (NotExercised index)) sound at none_asked none_ended said = tt
 
   -- from an earlier time on
   pub answered_since : (wider : List FinalizationUpdate → List StateView → Type 0) (wider_ask : List FinalizationUpdate → List StateView → ℕ → Type 0) (wider_end : List FinalizationUpdate → List StateView → Type 0) (before now done : List FinalizationUpdate) → ((m : List FinalizationUpdate) (v : List StateView) → seen m v → wider (done ++ m) v) → ((m : List FinalizationUpdate) (v : List StateView) (n : ℕ) → asked m v n → wider_ask (done ++ m) v n) → ((m : List FinalizationUpdate) (v : List StateView) → ended m v → wider_end (done ++ m) v) → now ≡ before ++ done → (f : PlanFault) → Answered fname fsays pname psays cname csays checks properties condition seen asked ended now f → Answered fname fsays pname psays cname csays checks properties condition wider wider_ask wider_end before f

@@ -14,8 +14,12 @@ use Rattle.simulate_parts.specs.declared.peer.Peer.{Peer}
 use Rattle.simulate_parts.specs.declared.peer.Round.{Round}
 use Rattle.simulate_parts.specs.declared.schedule.Crash.{Crash}
 use Rattle.simulate_parts.specs.declared.tracker.FinalizationUpdate.{FinalizationUpdate}
-use Rattle.ledger_simulate.specs.Delays.{reaches, started_after, started_by, starts, target_at}
+use Rattle.ledger_simulate.specs.Delays.{Launches, reaches, started_after, started_by, starts, target_at}
+use Rattle.ledger_simulate.specs.Opening.{starts as first_starts}
 use Rattle.ledger_simulate.specs.Plans.{target_count}
+use Rattle.ledger_simulate.specs.Queue.{AgendaView}
+use Rattle.ledger_simulate.specs.declared.event.Event.{Event}
+use Rattle.ledger_simulate.specs.declared.event.Event.TheVariants.{Started}
 use Rattle.ledger_simulate.specs.declared.reports.Reached.{Reached}
 
 -- as many of these as the first list has
@@ -84,7 +88,41 @@ pub if_ok_of : {A B E F X : Type 0} {Q : A → Type 0} (r : Result A E) (done : 
 if_ok_of {X} (Ok a) done b f same fact = f (subst (λ d. OnOk d X) same fact) a
 if_ok_of (Err e) done b f same fact = tt
 
+-- the same of two facts
+pub if_ok_of_both : {A B E F X Y : Type 0} {Q : A → Type 0} (r : Result A E) (done : Result B F) (b : B) → (X → Y → (a : A) → Q a) → OnOk r (done ≡ Ok b) → OnOk done X → OnOk done Y → IfOk r Q
+if_ok_of_both {X} {Y} (Ok a) done b f same first second = f (subst (λ d. OnOk d X) same first) (subst (λ d. OnOk d Y) same second) a
+if_ok_of_both (Err e) done b f same first second = tt
+
+-- what follows from a fact of the value that may be there
+pub if_ok_some_map : {A E : Type 0} {P Q : A → Type 0} (r : Result (Option A) E) → ((a : A) → P a → Q a) → IfOk r (λ o. IfSome o P) → IfOk r (λ o. IfSome o Q)
+if_ok_some_map (Ok o) f h = some_map o f h
+if_ok_some_map (Err e) f h = tt
+
+-- the same of two facts
+pub if_ok_some_both : {A E : Type 0} {P Q R : A → Type 0} (r : Result (Option A) E) → ((a : A) → P a → Q a → R a) → IfOk r (λ o. IfSome o P) → IfOk r (λ o. IfSome o Q) → IfOk r (λ o. IfSome o R)
+if_ok_some_both (Ok None) f p q = tt
+if_ok_some_both (Ok (Some a)) f p q = f a p q
+if_ok_some_both (Err e) f p q = tt
+
+-- a fact of a value that isn't there
+pub if_ok_no : {A E : Type 0} (P : A → Type 0) (r : Result (Option A) E) → IfOk r (λ o. o ≡ None) → IfOk r (λ o. IfSome o P)
+if_ok_no P (Ok o) none = subst (λ x. IfSome x P) (sym none) tt
+if_ok_no P (Err e) none = tt
+
+-- one participant more is started
+pub starts_more : (start : List (ℕ × Event)) (all left rest : List Peer) (now new : AgendaView) (pk : Peer) → now.events ++ first_starts left ≡ start ++ first_starts all → left ≡ pk ∷ rest → new ≡ record now { events = now.events ++ (0, Started pk) ∷ [] } → new.events ++ first_starts rest ≡ start ++ first_starts all
+starts_more start all left rest now new pk so_far first made =
+    ap (λ (a : AgendaView). a.events ++ first_starts rest) made
+    ∙ append_assoc now.events ((0, Started pk) ∷ []) (first_starts rest)
+    ∙ ap (λ ps. now.events ++ first_starts ps) (sym first)
+    ∙ so_far
+
 module _ (participants : List Peer) (crashes : List Crash) where
+  -- nobody is started where nothing changes
+  pub launches_none : (b : Bool) → Launches participants crashes b b []
+  launches_none true = refl
+  launches_none false = refl
+
   -- one report more
   pub started_more : (before done : List FinalizationUpdate) (started : Bool) (u : FinalizationUpdate) → started_after participants crashes before started (done ++ u ∷ []) ≡ (started_after participants crashes before started done || starts participants crashes (tracker_of (before ++ (done ++ u ∷ []))))
   started_more before [] started u = refl

@@ -11,4 +11,6 @@ pub mod Proceeding
 pub mod Reaches
 pub mod Results
 pub mod Stirring
+pub mod Striking
+pub mod Turning
 pub mod Watching

@@ -1,5 +1,5 @@
 -- What a handled event does to the seats, the reports and the queue.
-use Rattle.std.proofs.Common.{◌≡◌, ◌≤◌, ◌+◌, ℕ, All, Bool, List, [], ◌∷◌, ◌++◌, MatchOption, Option, Some, None, length, map, refl, sym, ap, ◌∙◌, subst, arith, length-append}
+use Rattle.std.proofs.Common.{◌≡◌, ◌≤◌, ◌+◌, ℕ, All, Bool, List, [], ◌∷◌, ◌++◌, IfOk, MatchOption, Option, Result, Some, None, length, map, refl, sym, ap, ◌∙◌, subst, arith, length-append}
 use Rattle.std.proofs.lemmas.List.{append-nil}
 use Rattle.std.proofs.lemmas.List.Elements.{All-nil}
 use Rattle.std.specs.BTreeMap.Range.{IsLtBy}
@@ -10,12 +10,18 @@ use Rattle.simulate_parts.specs.declared.engine.StepOut.{StepOut}
 use Rattle.simulate_parts.specs.declared.peer.Peer.{Peer}
 use Rattle.simulate_parts.specs.declared.schedule.Action.{Action}
 use Rattle.simulate_parts.specs.declared.tracker.FinalizationUpdate.{FinalizationUpdate}
-use Rattle.ledger_simulate.specs.Handling.{Grows, Handles, Rests, Seated, Stirs, Surrounds, Turns, birth_at, carried, number_after}
+use Rattle.simulate_parts.specs.declared.schedule.Crash.{Crash}
+use Rattle.simulate_parts.specs.declared.seats.Seat.{Seat}
+use Rattle.ledger_simulate.specs.Failures.{tally_after, tally_of}
+use Rattle.ledger_simulate.specs.declared.reports.Reached.{Reached}
+use Rattle.ledger_simulate.proofs.Turning.{struck_disturbs}
+use Rattle.ledger_simulate.specs.Handling.{Grows, Handles, Rests, Seated, Stirs, Surrounds, Tells, Turns, birth_at, carried, number_after, striking, told_by}
 use Rattle.ledger_simulate.specs.Messages.{timers_of}
 use Rattle.ledger_simulate.specs.Queue.{AgendaView, NumberedBelow, QueueView, empty_agenda, key_cmp, queued_all}
 use Rattle.ledger_simulate.specs.Runs.{Proceeds}
 use Rattle.ledger_simulate.specs.declared.event.Event.{Event}
 use Rattle.ledger_simulate.specs.declared.event.Event.TheVariants.{Started, Timer, Received, Act, CrashTick, ExitPoll, Recover}
+use Rattle.ledger_simulate.specs.declared.simulation.Told.{Told}
 use Rattle.ledger_simulate.specs.declared.world.World.{World}
 use Rattle.ledger_simulate.proofs.Engines.{passes_step, seated_step, seated_up}
 use Rattle.ledger_simulate.proofs.Numbering.{next_after}
@@ -30,10 +36,11 @@ pub record Leaves {D E S : Type 0} (peer_of : E → Peer) (reports : Option (Fin
   pub seated : Seated peer_of (number_after a) u.seats.entries → Seated peer_of (number_after b) v.seats.entries
   pub grows : Seated peer_of (number_after a) u.seats.entries → Grows reports us vs
 
-module _ {D E S : Type 0} (peer_of : E → Peer) (journal : Option (E → List (StepEvent × StepOut))) (reports : Option (FinalizationUpdate → Bool)) where
-  turns_leave : (pk : Peer) (birth : ℕ) (event : StepEvent) (a b : AgendaView) (us vs : List FinalizationUpdate) (u v : World D E S) → Turns peer_of journal reports pk birth event a b us vs u v → Leaves peer_of reports a b us vs u v
-  turns_leave pk birth event a b us vs u v turns =
+module _ {D E S : Type 0} (peer_of : E → Peer) (journal : Option (E → List (StepEvent × StepOut))) (reports : Option (FinalizationUpdate → Bool)) (height : S → ℕ) (participants : List Peer) (crashes : List Crash) (holds : List (Peer × Seat D E S) → Type 0) where
+  turns_leave : (o : Option Reached) (pk : Peer) (birth : ℕ) (event : StepEvent) (a b : AgendaView) (us vs : List FinalizationUpdate) (u v : World D E S) → Turns peer_of journal reports height participants crashes holds o pk birth event a b us vs u v → Leaves peer_of reports a b us vs u v
+  turns_leave o pk birth event a b us vs u v turns =
       let gives = turns.gives in
+      let disturbs = struck_disturbs peer_of height participants crashes holds (striking us (updates_of pk turns.out.finalized) o) turns.given b turns.mid v turns.struck in
       let made : List (ℕ × Event) = timers_of pk birth turns.out.timers in
       let sent : List (ℕ × Event) = (carried u turns.mid.seats.entries pk turns.out.messages).0 in
       let long : length turns.given.events ≡ length a.events + length made + length sent =
@@ -41,8 +48,8 @@ module _ {D E S : Type 0} (peer_of : E → Peer) (journal : Option (E → List (
       let same : turns.given.next ≡ a.next = gives.next in
       let up : number_after a ≤ number_after turns.given = omega arith in
       record {
-        next = turns.disturbs.stirs.adds.next ∙ gives.next;
-        seated = λ seated. turns.disturbs.stirs.seated
+        next = disturbs.stirs.adds.next ∙ gives.next;
+        seated = λ seated. disturbs.stirs.seated
             (seated_up peer_of (number_after a) (number_after turns.given) turns.mid.seats.entries up
             (seated_step peer_of journal reports pk event turns.out (number_after a) u.seats.entries turns.mid.seats.entries gives.step seated));
         grows = λ seated. record {
@@ -61,47 +68,47 @@ module _ {D E S : Type 0} (peer_of : E → Peer) (journal : Option (E → List (
     grows = λ seated. grows_none reports us vs rests.1;
   }
 
-  tells_leave : (pk : Peer) (event : StepEvent) (a b : AgendaView) (us vs : List FinalizationUpdate) (u v : World D E S) (birth : Option ℕ) → MatchOption birth (Rests a b us vs u v) (λ n. Turns peer_of journal reports pk n event a b us vs u v) → Leaves peer_of reports a b us vs u v
-  tells_leave pk event a b us vs u v None rests = rests_leave a b us vs u v rests
-  tells_leave pk event a b us vs u v (Some birth) turns = turns_leave pk birth event a b us vs u v turns
+  tells_leave : (o : Option Reached) (pk : Peer) (event : StepEvent) (a b : AgendaView) (us vs : List FinalizationUpdate) (u v : World D E S) (birth : Option ℕ) → MatchOption birth (Rests a b us vs u v) (λ n. Turns peer_of journal reports height participants crashes holds o pk n event a b us vs u v) → Leaves peer_of reports a b us vs u v
+  tells_leave o pk event a b us vs u v None rests = rests_leave a b us vs u v rests
+  tells_leave o pk event a b us vs u v (Some birth) turns = turns_leave o pk birth event a b us vs u v turns
 
   -- the engine that runs took a step
-  pub tells_by : (pk : Peer) (n : ℕ) (event : StepEvent) (a b : AgendaView) (us vs : List FinalizationUpdate) (u v : World D E S) (birth : Option ℕ) → birth ≡ Some n → Turns peer_of journal reports pk n event a b us vs u v → MatchOption birth (Rests a b us vs u v) (λ m. Turns peer_of journal reports pk m event a b us vs u v)
-  tells_by pk n event a b us vs u v birth is turns =
-      subst (λ o. MatchOption o (Rests a b us vs u v) (λ m. Turns peer_of journal reports pk m event a b us vs u v)) (sym is) turns
+  pub tells_by : (o : Option Reached) (pk : Peer) (n : ℕ) (event : StepEvent) (a b : AgendaView) (us vs : List FinalizationUpdate) (u v : World D E S) (birth : Option ℕ) → birth ≡ Some n → Turns peer_of journal reports height participants crashes holds o pk n event a b us vs u v → MatchOption birth (Rests a b us vs u v) (λ m. Turns peer_of journal reports height participants crashes holds o pk m event a b us vs u v)
+  tells_by o pk n event a b us vs u v birth is turns =
+      subst (λ x. MatchOption x (Rests a b us vs u v) (λ m. Turns peer_of journal reports height participants crashes holds o pk m event a b us vs u v)) (sym is) turns
 
-  surrounds_leave : (a b : AgendaView) (us vs : List FinalizationUpdate) (u v : World D E S) → Surrounds peer_of a b us vs u v → Leaves peer_of reports a b us vs u v
-  surrounds_leave a b us vs u v surrounds = record {
+  surrounds_leave : (event : Event) (a b : AgendaView) (us vs : List FinalizationUpdate) (u v : World D E S) → Surrounds peer_of crashes event a b us vs u v → Leaves peer_of reports a b us vs u v
+  surrounds_leave event a b us vs u v surrounds = record {
     next = surrounds.1.adds.next;
     seated = surrounds.1.seated;
     grows = λ seated. grows_none reports us vs surrounds.0;
   }
 
-  pub handles_leave : (key : ℕ × ℕ) (event : Event) (a b : AgendaView) (us vs : List FinalizationUpdate) (u v : World D E S) → Handles peer_of journal reports key event a b us vs u v → Leaves peer_of reports a b us vs u v
-  handles_leave key (Started pk) a b us vs u v h = tells_leave pk told_start a b us vs u v (birth_at u.seats.entries pk (Some key.1)) h
-  handles_leave key (Timer pk birth) a b us vs u v h = tells_leave pk (told_timer key.0) a b us vs u v (birth_at u.seats.entries pk (Some birth)) h
-  handles_leave key (Received from to channel bytes) a b us vs u v h = tells_leave to (told_message from channel bytes) a b us vs u v (birth_at u.seats.entries to None) h
-  handles_leave key (Act action) a b us vs u v h = surrounds_leave a b us vs u v h
-  handles_leave key CrashTick a b us vs u v h = surrounds_leave a b us vs u v h
-  handles_leave key ExitPoll a b us vs u v h = surrounds_leave a b us vs u v h
-  handles_leave key (Recover pk) a b us vs u v h = surrounds_leave a b us vs u v h
+  pub handles_leave : (o : Option Reached) (key : ℕ × ℕ) (event : Event) (a b : AgendaView) (us vs : List FinalizationUpdate) (u v : World D E S) → Handles peer_of journal reports height participants crashes holds o key event a b us vs u v → Leaves peer_of reports a b us vs u v
+  handles_leave o key (Started pk) a b us vs u v h = tells_leave o pk told_start a b us vs u v (birth_at u.seats.entries pk (Some key.1)) h
+  handles_leave o key (Timer pk birth) a b us vs u v h = tells_leave o pk (told_timer key.0) a b us vs u v (birth_at u.seats.entries pk (Some birth)) h
+  handles_leave o key (Received from to channel bytes) a b us vs u v h = tells_leave o to (told_message from channel bytes) a b us vs u v (birth_at u.seats.entries to None) h
+  handles_leave o key (Act action) a b us vs u v h = surrounds_leave (Act action) a b us vs u v h
+  handles_leave o key CrashTick a b us vs u v h = surrounds_leave CrashTick a b us vs u v h
+  handles_leave o key ExitPoll a b us vs u v h = surrounds_leave ExitPoll a b us vs u v h
+  handles_leave o key (Recover pk) a b us vs u v h = surrounds_leave (Recover pk) a b us vs u v h
 
   -- the same from no events made
-  pub grows_from : (n : ℕ) (key : ℕ × ℕ) (event : Event) (b : AgendaView) (us vs : List FinalizationUpdate) (u v : World D E S) → Handles peer_of journal reports key event (empty_agenda n) b us vs u v → Seated peer_of n u.seats.entries → Grows reports us vs
-  grows_from n key event b us vs u v handles seated =
+  pub grows_from : (o : Option Reached) (n : ℕ) (key : ℕ × ℕ) (event : Event) (b : AgendaView) (us vs : List FinalizationUpdate) (u v : World D E S) → Handles peer_of journal reports height participants crashes holds o key event (empty_agenda n) b us vs u v → Seated peer_of n u.seats.entries → Grows reports us vs
+  grows_from o n key event b us vs u v handles seated =
       let up : n ≤ number_after (empty_agenda n) = omega arith in
-      (handles_leave key event (empty_agenda n) b us vs u v handles).grows (seated_up peer_of n (number_after (empty_agenda n)) u.seats.entries up seated)
+      (handles_leave o key event (empty_agenda n) b us vs u v handles).grows (seated_up peer_of n (number_after (empty_agenda n)) u.seats.entries up seated)
 
-  pub seated_from : (n m : ℕ) (key : ℕ × ℕ) (event : Event) (b : AgendaView) (us vs : List FinalizationUpdate) (u v : World D E S) → m ≡ n + length b.events → Handles peer_of journal reports key event (empty_agenda n) b us vs u v → Seated peer_of n u.seats.entries → Seated peer_of m v.seats.entries
-  seated_from n m key event b us vs u v after handles seated =
-      let leaves = handles_leave key event (empty_agenda n) b us vs u v handles in
+  pub seated_from : (o : Option Reached) (n m : ℕ) (key : ℕ × ℕ) (event : Event) (b : AgendaView) (us vs : List FinalizationUpdate) (u v : World D E S) → m ≡ n + length b.events → Handles peer_of journal reports height participants crashes holds o key event (empty_agenda n) b us vs u v → Seated peer_of n u.seats.entries → Seated peer_of m v.seats.entries
+  seated_from o n m key event b us vs u v after handles seated =
+      let leaves = handles_leave o key event (empty_agenda n) b us vs u v handles in
       let up : n ≤ number_after (empty_agenda n) = omega arith in
       let next : b.next ≡ n = leaves.next in
       let same : number_after b ≤ m = omega arith in
       seated_up peer_of (number_after b) m v.seats.entries same (leaves.seated (seated_up peer_of n (number_after (empty_agenda n)) u.seats.entries up seated))
 
   -- the first event taken off, handled, and those put in that its handling made
-  pub proceeds_by : (before rest new : QueueView) (entry : (ℕ × ℕ) × Event) (agenda : AgendaView) (us vs : List FinalizationUpdate) (u v : World D E S) → before ≡ record rest { entries = entry ∷ rest.entries } → All (IsLtBy key_cmp entry.0) (map (λ e. e.0) rest.entries) → NumberedBelow before.next before.entries → new ≡ queued_all rest entry.0.0 agenda.events → Handles peer_of journal reports entry.0 entry.1 (empty_agenda rest.next) agenda us vs u v → Proceeds peer_of journal reports before new us vs u v
+  pub proceeds_by : (before rest new : QueueView) (entry : (ℕ × ℕ) × Event) (agenda : AgendaView) (us vs : List FinalizationUpdate) (u v : World D E S) → before ≡ record rest { entries = entry ∷ rest.entries } → All (IsLtBy key_cmp entry.0) (map (λ e. e.0) rest.entries) → NumberedBelow before.next before.entries → new ≡ queued_all rest entry.0.0 agenda.events → Handles peer_of journal reports height participants crashes holds None entry.0 entry.1 (empty_agenda rest.next) agenda us vs u v → Proceeds peer_of journal reports height participants crashes holds before new us vs u v
   proceeds_by before rest new entry agenda us vs u v taken least numbered put handles =
       let next : before.next ≡ rest.next = ap (λ (q : QueueView). q.next) taken in
       let after : new.next ≡ rest.next + length agenda.events = ap (λ (q : QueueView). q.next) put ∙ next_after rest entry.0.0 agenda.events in
@@ -115,39 +122,44 @@ module _ {D E S : Type 0} (peer_of : E → Peer) (journal : Option (E → List (
           numbered = numbered;
           then = put ∙ ap (λ n. queued_all (record { entries = rest.entries; next = n }) entry.0.0 agenda.events) (sym next);
         };
-        handles = subst (λ n. Handles peer_of journal reports entry.0 entry.1 (empty_agenda n) agenda us vs u v) (sym next) handles;
-        seated = λ seated. seated_from rest.next new.next entry.0 entry.1 agenda us vs u v after handles (subst (λ n. Seated peer_of n u.seats.entries) next seated);
-        grows = λ seated. grows_from rest.next entry.0 entry.1 agenda us vs u v handles (subst (λ n. Seated peer_of n u.seats.entries) next seated);
+        handles = subst (λ n. Handles peer_of journal reports height participants crashes holds None entry.0 entry.1 (empty_agenda n) agenda us vs u v) (sym next) handles;
+        seated = λ seated. seated_from None rest.next new.next entry.0 entry.1 agenda us vs u v after handles (subst (λ n. Seated peer_of n u.seats.entries) next seated);
+        grows = λ seated. grows_from None rest.next entry.0 entry.1 agenda us vs u v handles (subst (λ n. Seated peer_of n u.seats.entries) next seated);
       }
 
   -- the same from an agenda of nothing, where the reports and the world are equal ones
-  pub goes_on : (before rest new : QueueView) (entry : (ℕ × ℕ) × Event) (start agenda : AgendaView) (us vs ws : List FinalizationUpdate) (u v w : World D E S) → before ≡ record rest { entries = entry ∷ rest.entries } → All (IsLtBy key_cmp entry.0) (map (λ e. e.0) rest.entries) → NumberedBelow before.next before.entries → new ≡ queued_all rest entry.0.0 agenda.events → start ≡ empty_agenda rest.next → Handles peer_of journal reports entry.0 entry.1 start agenda us vs u v → ws ≡ vs → w ≡ v → Proceeds peer_of journal reports before new us ws u w
+  pub goes_on : (before rest new : QueueView) (entry : (ℕ × ℕ) × Event) (start agenda : AgendaView) (us vs ws : List FinalizationUpdate) (u v w : World D E S) → before ≡ record rest { entries = entry ∷ rest.entries } → All (IsLtBy key_cmp entry.0) (map (λ e. e.0) rest.entries) → NumberedBelow before.next before.entries → new ≡ queued_all rest entry.0.0 agenda.events → start ≡ empty_agenda rest.next → Handles peer_of journal reports height participants crashes holds None entry.0 entry.1 start agenda us vs u v → ws ≡ vs → w ≡ v → Proceeds peer_of journal reports height participants crashes holds before new us ws u w
   goes_on before rest new entry start agenda us vs ws u v w taken least numbered put nothing handles same_reports same_world =
-      subst (λ x. Proceeds peer_of journal reports before new us x u w) (sym same_reports)
-      (subst (λ x. Proceeds peer_of journal reports before new us vs u x) (sym same_world)
+      subst (λ x. Proceeds peer_of journal reports height participants crashes holds before new us x u w) (sym same_reports)
+      (subst (λ x. Proceeds peer_of journal reports height participants crashes holds before new us vs u x) (sym same_world)
       (proceeds_by before rest new entry agenda us vs u v taken least numbered put
-      (subst (λ a. Handles peer_of journal reports entry.0 entry.1 a agenda us vs u v) nothing handles)))
+      (subst (λ a. Handles peer_of journal reports height participants crashes holds None entry.0 entry.1 a agenda us vs u v) nothing handles)))
 
   -- the reports of a run that is over
-  pub grows_by : (before rest : QueueView) (entry : (ℕ × ℕ) × Event) (start agenda : AgendaView) (us vs ws : List FinalizationUpdate) (u v : World D E S) → before ≡ record rest { entries = entry ∷ rest.entries } → start ≡ empty_agenda rest.next → Handles peer_of journal reports entry.0 entry.1 start agenda us vs u v → ws ≡ vs → Seated peer_of before.next u.seats.entries → Grows reports us ws
-  grows_by before rest entry start agenda us vs ws u v taken nothing handles same seated =
+  pub grows_by : (o : Option Reached) (before rest : QueueView) (entry : (ℕ × ℕ) × Event) (start agenda : AgendaView) (us vs ws : List FinalizationUpdate) (u v : World D E S) → before ≡ record rest { entries = entry ∷ rest.entries } → start ≡ empty_agenda rest.next → Handles peer_of journal reports height participants crashes holds o entry.0 entry.1 start agenda us vs u v → ws ≡ vs → Seated peer_of before.next u.seats.entries → Grows reports us ws
+  grows_by o before rest entry start agenda us vs ws u v taken nothing handles same seated =
       subst (Grows reports us) (sym same)
-      (grows_from rest.next entry.0 entry.1 agenda us vs u v
-      (subst (λ a. Handles peer_of journal reports entry.0 entry.1 a agenda us vs u v) nothing handles)
+      (grows_from o rest.next entry.0 entry.1 agenda us vs u v
+      (subst (λ a. Handles peer_of journal reports height participants crashes holds o entry.0 entry.1 a agenda us vs u v) nothing handles)
       (subst (λ n. Seated peer_of n u.seats.entries) (ap (λ (q : QueueView). q.next) taken) seated))
 
+  -- an event that tells an engine this
+  pub handles_told : {F : Type 0} (key : ℕ × ℕ) (event : Event) (t : Told) (a b : AgendaView) (us vs : List FinalizationUpdate) (u v : World D E S) (r : Result (Option Reached) F) → Some (t.pk, t.birth, t.event) ≡ told_by key event → IfOk r (λ o. Tells peer_of journal reports height participants crashes holds o t.pk t.birth t.event a b us vs u v) → IfOk r (λ o. Handles peer_of journal reports height participants crashes holds o key event a b us vs u v)
+  handles_told key event t a b us vs u v r is told =
+      subst (λ x. IfOk r (λ o. MatchOption x (Surrounds peer_of crashes event a b us vs u v) (λ y. Tells peer_of journal reports height participants crashes holds o y.0 y.1 y.2 a b us vs u v))) is told
+
   -- an event that is for no engine
-  pub handles_act : (key : ℕ × ℕ) (event : Event) (action : Action) (a b : AgendaView) (us : List FinalizationUpdate) (u v : World D E S) → event ≡ Act action → Stirs peer_of a b u v → Handles peer_of journal reports key event a b us us u v
-  handles_act key event action a b us u v is stirs = subst (λ e. Handles peer_of journal reports key e a b us us u v) (sym is) (refl, stirs)
+  pub handles_act : (o : Option Reached) (key : ℕ × ℕ) (event : Event) (action : Action) (a b : AgendaView) (us : List FinalizationUpdate) (u v : World D E S) → event ≡ Act action → Stirs peer_of a b u v → tally_of v.exercise ≡ tally_after crashes (Act action) u → Handles peer_of journal reports height participants crashes holds o key event a b us us u v
+  handles_act o key event action a b us u v is stirs tally = subst (λ e. Handles peer_of journal reports height participants crashes holds o key e a b us us u v) (sym is) (refl, stirs, tally)
 
-  pub handles_tick : (key : ℕ × ℕ) (event : Event) (a b : AgendaView) (us : List FinalizationUpdate) (u v : World D E S) → event ≡ CrashTick → Stirs peer_of a b u v → Handles peer_of journal reports key event a b us us u v
-  handles_tick key event a b us u v is stirs = subst (λ e. Handles peer_of journal reports key e a b us us u v) (sym is) (refl, stirs)
+  pub handles_tick : (o : Option Reached) (key : ℕ × ℕ) (event : Event) (a b : AgendaView) (us : List FinalizationUpdate) (u v : World D E S) → event ≡ CrashTick → Stirs peer_of a b u v → tally_of v.exercise ≡ tally_after crashes CrashTick u → Handles peer_of journal reports height participants crashes holds o key event a b us us u v
+  handles_tick o key event a b us u v is stirs tally = subst (λ e. Handles peer_of journal reports height participants crashes holds o key e a b us us u v) (sym is) (refl, stirs, tally)
 
-  pub handles_poll : (key : ℕ × ℕ) (event : Event) (a b : AgendaView) (us : List FinalizationUpdate) (u v : World D E S) → event ≡ ExitPoll → Stirs peer_of a b u v → Handles peer_of journal reports key event a b us us u v
-  handles_poll key event a b us u v is stirs = subst (λ e. Handles peer_of journal reports key e a b us us u v) (sym is) (refl, stirs)
+  pub handles_poll : (o : Option Reached) (key : ℕ × ℕ) (event : Event) (a b : AgendaView) (us : List FinalizationUpdate) (u v : World D E S) → event ≡ ExitPoll → Stirs peer_of a b u v → tally_of v.exercise ≡ tally_after crashes ExitPoll u → Handles peer_of journal reports height participants crashes holds o key event a b us us u v
+  handles_poll o key event a b us u v is stirs tally = subst (λ e. Handles peer_of journal reports height participants crashes holds o key e a b us us u v) (sym is) (refl, stirs, tally)
 
-  pub handles_recover : (key : ℕ × ℕ) (event : Event) (pk : Peer) (a b : AgendaView) (us : List FinalizationUpdate) (u v : World D E S) → event ≡ Recover pk → Stirs peer_of a b u v → Handles peer_of journal reports key event a b us us u v
-  handles_recover key event pk a b us u v is stirs = subst (λ e. Handles peer_of journal reports key e a b us us u v) (sym is) (refl, stirs)
+  pub handles_recover : (o : Option Reached) (key : ℕ × ℕ) (event : Event) (pk : Peer) (a b : AgendaView) (us : List FinalizationUpdate) (u v : World D E S) → event ≡ Recover pk → Stirs peer_of a b u v → tally_of v.exercise ≡ tally_after crashes (Recover pk) u → Handles peer_of journal reports height participants crashes holds o key event a b us us u v
+  handles_recover o key event pk a b us u v is stirs tally = subst (λ e. Handles peer_of journal reports height participants crashes holds o key e a b us us u v) (sym is) (refl, stirs, tally)
 
   -- seats that are in order before the first event is taken off
   pub seated_begun : (before rest : QueueView) (entry : (ℕ × ℕ) × Event) (start : AgendaView) (u : World D E S) → before ≡ record rest { entries = entry ∷ rest.entries } → start ≡ empty_agenda rest.next → Seated peer_of before.next u.seats.entries → Seated peer_of (number_after start) u.seats.entries

@@ -1,11 +1,15 @@
 -- What the faults that end a run while an event is handled come from.
-use Rattle.std.specs.Prelude.{◌≡◌, ℕ, Bool, true, false, List, ◌++◌, Some, Contains, IsTrue, nat_lt}
+use Rattle.std.specs.Prelude.{◌≡◌, ◌⊎◌, ◌<◌, ℕ, Bool, true, false, List, ◌++◌, Some}
 use Rattle.simulate_parts.specs.Tracker.{observe_fault, tracker_of}
 use Rattle.simulate_parts.specs.declared.schedule.Crash.{Crash}
-use Rattle.simulate_parts.specs.declared.schedule.Crash.TheVariants.{Random, DelayRound, ProcessedHeight, Schedule}
+use Rattle.simulate_parts.specs.declared.seats.Seat.{Seat}
 use Rattle.simulate_parts.specs.declared.tracker.FinalizationUpdate.{FinalizationUpdate}
 use Rattle.simulate_parts.specs.declared.tracker.ObserveFault.{ObserveFault}
-use Rattle.ledger_simulate.specs.Exercise.{unexercised_from}
+use Rattle.simulate_parts.specs.declared.peer.Peer.{Peer}
+use Rattle.ledger_simulate.specs.Failures.{first_passed, standing_of}
+use Rattle.ledger_simulate.specs.Handling.{Struck}
+use Rattle.ledger_simulate.specs.Queue.{AgendaView}
+use Rattle.ledger_simulate.specs.declared.world.World.{World}
 use Rattle.ledger_simulate.specs.declared.fault.PlanFault.{PlanFault}
 use Rattle.ledger_simulate.specs.declared.fault.PlanFault.TheVariants.{EventLimit, Exit, FinalizationProperty, Fork, Idle, NotExercised, Property, SkippedWindow, Timeout}
 use Rattle.ledger_simulate.specs.declared.fault.Stop.{Stop}
@@ -28,58 +32,44 @@ abbrev pub stops_asked : Stop → Bool
 stops_asked (Fault fault) = is_asked fault
 stops_asked OutOfMemory = true
 
--- the failure is a window of heights below this one
-abbrev pub is_passed : ℕ → Crash → Bool
-is_passed height (ProcessedHeight participant first last downtime) = nat_lt last height
-is_passed height (Random frequency downtime count) = false
-is_passed height (DelayRound participants round) = false
-is_passed height (Schedule events) = false
+-- at one of so many reports, after those before it had set failures off, this height was found above a window that
+-- wasn't entered
+pub record SkipsAmong {D E S : Type 0} (peer_of : E → Peer) (height : S → ℕ) (participants : List Peer) (crashes : List Crash) (holds : List (Peer × Seat D E S) → Type 0) (reports : ℕ) (a : AgendaView) (u : World D E S) (skipped : ℕ) : Type 0 where
+  pub count : ℕ
+  pub within : count < reports
+  pub made : AgendaView
+  pub world : World D E S
+  pub struck : Struck peer_of height participants crashes holds count a made u world
+  pub skips : first_passed height 0 crashes (standing_of world) ≡ Some skipped
 
--- a window of these failures is below the height
-pub record Skips (crashes : List Crash) (height : ℕ) : Type 0 where
-  pub window : Crash
-  pub among : Contains crashes window
-  pub passed : IsTrue (is_passed height window)
+-- a window was passed, or memory was wanting
+abbrev pub IsSkip : (ℕ → Type 0) → Stop → Type 0
+IsSkip skipped stop = (stop ≡ OutOfMemory) ⊎ ((height : ℕ) × (stop ≡ Fault (SkippedWindow height)) × skipped height)
 
--- a report that may come is refused by the tracker of the reports so far
-pub record Forks (allowed : FinalizationUpdate → Type 0) (before : List FinalizationUpdate) (update : FinalizationUpdate) (fault : ObserveFault) : Type 0 where
+-- a report that comes after these more is refused by the tracker of those before it
+pub record Forks (reported : List FinalizationUpdate → FinalizationUpdate → Type 0) (before : List FinalizationUpdate) (update : FinalizationUpdate) (fault : ObserveFault) : Type 0 where
   pub more : List FinalizationUpdate
+  pub comes : reported more update
   pub refused : observe_fault (tracker_of (before ++ more)) update ≡ Some fault
-  pub may : allowed update
 
--- the first failure that came to nothing
-pub record Misses (crashes : List Crash) (index : ℕ) : Type 0 where
-  pub ran : ℕ
-  pub actions : ℕ
-  pub started : Bool
-  pub entered : List Bool
-  pub missed : unexercised_from ran actions started entered 0 crashes ≡ Some index
+-- what a fault comes from, but for what checks answer: a report that came, a window that was skipped, a failure
+-- that came to nothing
+abbrev pub Comes : (List FinalizationUpdate → FinalizationUpdate → Type 0) → (ℕ → Type 0) → (ℕ → Type 0) → List FinalizationUpdate → PlanFault → Type 0
+Comes reported skipped missed before (Fork update fault) = Forks reported before update fault
+Comes reported skipped missed before (FinalizationProperty name text) = Unit {0}
+Comes reported skipped missed before (Property name text) = Unit {0}
+Comes reported skipped missed before (Exit name text) = Unit {0}
+Comes reported skipped missed before Timeout = ⊥
+Comes reported skipped missed before EventLimit = ⊥
+Comes reported skipped missed before Idle = ⊥
+Comes reported skipped missed before (SkippedWindow height) = skipped height
+Comes reported skipped missed before (NotExercised index) = missed index
 
--- what a fault comes from, but for what checks answer
-abbrev pub Comes : List Crash → (FinalizationUpdate → Type 0) → List FinalizationUpdate → PlanFault → Type 0
-Comes crashes allowed before (Fork update fault) = Forks allowed before update fault
-Comes crashes allowed before (FinalizationProperty name text) = Unit {0}
-Comes crashes allowed before (Property name text) = Unit {0}
-Comes crashes allowed before (Exit name text) = Unit {0}
-Comes crashes allowed before Timeout = ⊥
-Comes crashes allowed before EventLimit = ⊥
-Comes crashes allowed before Idle = ⊥
-Comes crashes allowed before (SkippedWindow height) = Skips crashes height
-Comes crashes allowed before (NotExercised index) = Misses crashes index
-
--- what a stop comes from, want of memory aside
-abbrev pub StopComes : List Crash → (FinalizationUpdate → Type 0) → List FinalizationUpdate → Stop → Type 0
-StopComes crashes allowed before (Fault fault) = Comes crashes allowed before fault
-StopComes crashes allowed before OutOfMemory = Unit {0}
+-- what a stop comes from, want of memory aside; whether failures came to nothing is asked at the end alone
+abbrev pub StopComes : (List FinalizationUpdate → FinalizationUpdate → Type 0) → (ℕ → Type 0) → List FinalizationUpdate → Stop → Type 0
+StopComes reported skipped before (Fault fault) = Comes reported skipped (λ index. ⊥) before fault
+StopComes reported skipped before OutOfMemory = Unit {0}
 
 -- what a fault after the last event comes from
-abbrev pub EndComes : List Crash → PlanFault → Type 0
-EndComes crashes (Fork update fault) = ⊥
-EndComes crashes (FinalizationProperty name text) = Unit {0}
-EndComes crashes (Property name text) = Unit {0}
-EndComes crashes (Exit name text) = Unit {0}
-EndComes crashes Timeout = ⊥
-EndComes crashes EventLimit = ⊥
-EndComes crashes Idle = ⊥
-EndComes crashes (SkippedWindow height) = ⊥
-EndComes crashes (NotExercised index) = Misses crashes index
+abbrev pub EndComes : (ℕ → Type 0) → List FinalizationUpdate → PlanFault → Type 0
+EndComes missed before fault = Comes (λ more update. ⊥) (λ height. ⊥) missed before fault

@@ -1,8 +1,8 @@
 -- When the delayed participants are started, and how many count for the exit condition then.
-use Rattle.std.specs.Prelude.{ℕ, ◌-◌, ◌==◌, ◌&&◌, ◌||◌, Bool, false, not, List, [], ◌∷◌, ◌++◌, Option, Some, None, length, take, if◌then◌else◌}
+use Rattle.std.specs.Prelude.{◌≡◌, ℕ, ◌-◌, ◌==◌, ◌&&◌, ◌||◌, Bool, true, false, not, List, [], ◌∷◌, ◌++◌, Option, Some, None, IsPermutation, IsSorted, length, take, if◌then◌else◌}
 use Rattle.std.specs.List.{list_any}
 use Rattle.std.specs.Ordering.{is_ge}
-use Rattle.simulate_parts.specs.Tracker.{finalized_rounds, round_cmp, tracker_of}
+use Rattle.simulate_parts.specs.Tracker.{finalized_rounds, peer_cmp, round_cmp, tracker_of}
 use Rattle.simulate_parts.specs.TrackerView.{TrackerView}
 use Rattle.simulate_parts.specs.declared.peer.Peer.{Peer}
 use Rattle.simulate_parts.specs.declared.peer.Round.{Round}
@@ -56,3 +56,10 @@ started_by participants crashes before started more (Some reached) = started_whe
 abbrev pub target_at : List Peer → List Crash → List FinalizationUpdate → Bool → List FinalizationUpdate → ℕ
 target_at participants crashes before started more =
     target_count participants crashes (started_after participants crashes before started (take (length more - 1) more))
+
+-- which participants a report starts, by whether the delayed ones were started before it and after it: all of those,
+-- in ascending order, or none
+abbrev pub Launches : List Peer → List Crash → Bool → Bool → List Peer → Type 0
+Launches participants crashes false true launched = IsPermutation (late participants crashes) launched × IsSorted peer_cmp launched
+Launches participants crashes false false launched = launched ≡ []
+Launches participants crashes true is launched = launched ≡ []

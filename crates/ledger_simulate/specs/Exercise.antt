@@ -2,6 +2,7 @@
 use Rattle.std.specs.Prelude.{ℕ, ◌+◌, ◌==◌, Bool, false, not, List, [], ◌∷◌, Option, Some, None, length, slice_get, unwrap_or, if◌then◌else◌}
 use Rattle.simulate_parts.specs.declared.schedule.Crash.{Crash}
 use Rattle.simulate_parts.specs.declared.schedule.Crash.TheVariants.{Random, DelayRound, ProcessedHeight, Schedule}
+use Rattle.ledger_simulate.specs.declared.exercise.Exercise.{Exercise}
 
 -- the failure came to nothing: a random one while no crash ran, a schedule of actions while none was
 -- applied, a delay while the delayed weren't started, a window that was never entered
@@ -17,3 +18,7 @@ unexercised_from crashes actions started entered i [] = None
 unexercised_from crashes actions started entered i (c ∷ cs) =
     if is_unexercised crashes actions started c (unwrap_or (slice_get entered i) false) then Some i
     else unexercised_from crashes actions started entered (i + 1) cs
+
+-- the first failure that came to nothing
+abbrev pub missed_by : Exercise → List Crash → Option ℕ
+missed_by e crashes = unexercised_from e.crashes e.scheduled_actions e.delayed_started e.entered.items 0 crashes

@@ -2,6 +2,7 @@ pub mod Answering
 pub mod Causes
 pub mod Delays
 pub mod Exercise
+pub mod Failures
 pub mod Handling
 pub mod Links
 pub mod Messages

@@ -1,6 +1,7 @@
 -- What a step does to a run, and what a result is worth.
 use Rattle.std.specs.Prelude.{◌≡◌, ◌≤◌, ℕ, Bool, List, ◌∷◌, ◌++◌, Option, None, Result, All, length, map, take}
 use Rattle.std.specs.BTreeMap.Range.{IsLtBy}
+use Rattle.simulate_parts.specs.Seats.{active_views}
 use Rattle.simulate_parts.specs.Tracker.{tracker_of}
 use Rattle.simulate_parts.specs.TrackerView.{TrackerView}
 use Rattle.simulate_parts.specs.declared.engine.StateView.{StateView}
@@ -8,6 +9,7 @@ use Rattle.simulate_parts.specs.declared.engine.StepEvent.{StepEvent}
 use Rattle.simulate_parts.specs.declared.engine.StepOut.{StepOut}
 use Rattle.simulate_parts.specs.declared.peer.Peer.{Peer}
 use Rattle.simulate_parts.specs.declared.schedule.Crash.{Crash}
+use Rattle.simulate_parts.specs.declared.seats.Seat.{Seat}
 use Rattle.ledger_simulate.specs.Exercise.{unexercised_from}
 use Rattle.ledger_simulate.specs.Handling.{Grows, Handles, Seated}
 use Rattle.ledger_simulate.specs.Plans.{target_count}
@@ -19,6 +21,10 @@ use Rattle.ledger_simulate.specs.declared.event.Event.{Event}
 use Rattle.ledger_simulate.specs.declared.exercise.Exercise.{Exercise}
 use Rattle.ledger_simulate.specs.declared.reports.Reached.{Reached}
 use Rattle.ledger_simulate.specs.declared.world.World.{World}
+
+-- each check of the states that is asked at a report answers Ok on those of the engines that run
+abbrev pub Sound : {F D E S : Type 0} → (F → List StateView → Option (List ℕ)) → List F → (S → ℕ) → (S → List ℕ) → List (Peer × Seat D E S) → Type 0
+Sound complaint checks height shown seats = All (λ p. complaint p (active_views height shown seats) ≡ None) checks
 
 -- a list that has grown at its end alone
 pub record Extends {X : Type 0} (before after : List X) : Type 0 where
@@ -36,11 +42,11 @@ pub record Advances (entry : (ℕ × ℕ) × Event) (made : List (ℕ × Event))
 
 -- one event was handled, and the run goes on: the event left the queue, those that were made are queued, and
 -- the reports and the world are what the handling left
-pub record Proceeds {D E S : Type 0} (peer_of : E → Peer) (journal : Option (E → List (StepEvent × StepOut))) (reports : Option (FinalizationUpdate → Bool)) (before after : QueueView) (us vs : List FinalizationUpdate) (u v : World D E S) : Type 0 where
+pub record Proceeds {D E S : Type 0} (peer_of : E → Peer) (journal : Option (E → List (StepEvent × StepOut))) (reports : Option (FinalizationUpdate → Bool)) (height : S → ℕ) (participants : List Peer) (crashes : List Crash) (holds : List (Peer × Seat D E S) → Type 0) (before after : QueueView) (us vs : List FinalizationUpdate) (u v : World D E S) : Type 0 where
   pub entry : (ℕ × ℕ) × Event
   pub agenda : AgendaView
   pub advances : Advances entry agenda.events before after
-  pub handles : Handles peer_of journal reports entry.0 entry.1 (empty_agenda before.next) agenda us vs u v
+  pub handles : Handles peer_of journal reports height participants crashes holds None entry.0 entry.1 (empty_agenda before.next) agenda us vs u v
   pub seated : Seated peer_of before.next u.seats.entries → Seated peer_of after.next v.seats.entries
   pub grows : Seated peer_of before.next u.seats.entries → Grows reports us vs
 

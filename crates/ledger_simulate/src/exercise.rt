@@ -1,6 +1,7 @@
 //! Whether the configured failures came to anything.
 ghost use Rattle.std.specs.Prelude.{◌≡◌, ◌+◌, ◌-◌, ◌^◌, IfOk, false, min, replicate, set, slice_get, true, unwrap_or};
-ghost use Rattle.ledger_simulate.specs.Exercise.{is_unexercised, unexercised_from};
+ghost use Rattle.ledger_simulate.specs.Exercise.{is_unexercised, missed_by};
+ghost use Rattle.ledger_simulate.specs.Failures.{tally_of};
 
 use ledger_codec::OutOfMemory;
 use simulate_parts::Crash;
@@ -42,7 +43,7 @@ impl Exercise {
 
     /// Marks the window of the configured failure at this place as entered.
     pub fn enter(&mut self, index: usize)
-        ensures entered { self.new.entered.items ≡ set self.old.entered.items index true }
+        ensures tally { tally_of self.new ≡ record (tally_of self.old) { entered = set self.old.entered.items index true } }
         ensures started { self.new.delayed_started ≡ self.old.delayed_started }
     {
         if index < self.entered.len() {
@@ -84,7 +85,7 @@ impl Exercise {
 
     /// The first place of a configured failure that came to nothing.
     pub fn first_missed(&self, crashes: &[Crash]) -> Option<usize>
-        ensures { result ≡ unexercised_from self.now.crashes self.now.scheduled_actions self.now.delayed_started self.now.entered.items 0 crashes.now }
+        ensures { result ≡ missed_by self.now crashes.now }
     {
         for (i, crash) in crashes.iter().enumerate() {
             if self.missed(crash, self.has_entered(i)) {

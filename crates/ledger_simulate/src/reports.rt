@@ -1,14 +1,16 @@
 //! What the reports of a step set off.
-ghost use Rattle.std.specs.Prelude.{◌≡◌, ◌++◌, ◌∷◌, ◌||◌, [], Contains, IfErr, IfOk, IfSome, IsTrue, MatchOption, None, OnOk, length};
+ghost use Rattle.std.specs.Prelude.{◌≡◌, ◌++◌, ◌∷◌, ◌||◌, [], IfErr, IfOk, IfSome, IsTrue, MatchOption, None, Some, OnOk, length};
 ghost use Rattle.simulate_parts.specs.Engine.{updates_of};
 ghost use Rattle.simulate_parts.specs.Seats.{active_views};
 ghost use Rattle.simulate_parts.specs.Tracker.{tracker_of};
-ghost use Rattle.ledger_simulate.specs.Answering.{IsComplaint, IsFailure, Sees, StopAnswered};
-ghost use Rattle.ledger_simulate.specs.Causes.{StopComes, stops_asked};
+ghost use Rattle.ledger_simulate.specs.Answering.{IsComplaint, IsFailure, MetOn, Sees, StopAnswered};
+ghost use Rattle.ledger_simulate.specs.Causes.{SkipsAmong, StopComes, stops_asked};
 ghost use Rattle.ledger_simulate.specs.Delays.{started_by, starts, target_at};
-ghost use Rattle.ledger_simulate.specs.Handling.{Disturbs};
+ghost use Rattle.ledger_simulate.specs.Failures.{first_passed, standing_of, views_checked};
+ghost use Rattle.ledger_simulate.specs.Handling.{Disturbs, Strikes, Struck, striking};
 ghost use Rattle.ledger_simulate.specs.Plans.{target_count};
 ghost use Rattle.ledger_simulate.specs.Reaching.{IsReached};
+ghost use Rattle.ledger_simulate.specs.Runs.{Sound};
 ghost use Rattle.ledger_simulate.specs.Stops.{stops_late};
 
 use crate::agenda::Agenda;
@@ -62,6 +64,7 @@ pub fn ask<D: EngineDefinition>(
 ) -> Result<Option<Reached>, Stop>
     ensures reached { IfOk result (λ o. IfSome o (λ r. IsReached (λ c. exit_verdict c) plan.now.exit_condition plan.now.required_finalizations (target_count plan.now.participants plan.now.crashes world.now.exercise.delayed_started) watch.now r)) }
     ensures count { IfOk result (λ o. IfSome o (λ r. r.count ≡ length watch.now)) }
+    ensures states { IfOk result (λ o. IfSome o (λ r. r.states ≡ states)) }
     ensures asked { IfErr result (λ s. IsTrue (stops_asked s)) }
     ensures fails { IfErr result (IsFailure (λ c. exit_name c) (λ c. exit_verdict c) plan.now.exit_condition (tracker_of watch.now) states.items (target_count plan.now.participants plan.now.crashes world.now.exercise.delayed_started)) }
     ensures late { IfErr result (λ s. IsTrue (stops_late s)) }
@@ -97,12 +100,15 @@ fn take_report<D: EngineDefinition>(
     update: FinalizationUpdate,
 ) -> Result<Option<Reached>, Stop>
     ensures disturbs { OnOk result (Disturbs (D.peer_of plan.now.engine) agenda.old agenda.new world.old world.new) }
+    ensures strikes { OnOk result (Strikes (D.peer_of plan.now.engine) D.State.height_of plan.now.participants plan.now.crashes (Sound (λ p. finalization_complaint p) plan.now.finalization_property D.State.height_of D.State.bytes_of) agenda.old agenda.new world.old world.new) }
     ensures updates { OnOk result (watch.new ≡ watch.old ++ update ∷ []) }
     ensures reached { IfOk result (λ o. IfSome o (λ r. IsReached (λ c. exit_verdict c) plan.now.exit_condition plan.now.required_finalizations (target_count plan.now.participants plan.now.crashes world.new.exercise.delayed_started) watch.new r)) }
     ensures started { IfOk result (λ o. o ≡ None → world.new.exercise.delayed_started ≡ (world.old.exercise.delayed_started || starts plan.now.participants plan.now.crashes (tracker_of watch.new))) }
     ensures met { IfOk result (λ o. IfSome o (λ r. (world.new.exercise.delayed_started ≡ world.old.exercise.delayed_started) × (r.count ≡ length watch.new))) }
-    ensures comes { IfErr result (StopComes plan.now.crashes (λ u. u ≡ update) watch.old) }
-    ensures answered { IfErr result (StopAnswered (λ p. finalization_name p) (λ p. finalization_complaint p) (λ p. property_name p) (λ p. property_complaint p) (λ c. exit_name c) (λ c. exit_verdict c) plan.now.finalization_property plan.now.property plan.now.exit_condition (Sees (D.peer_of plan.now.engine) D.State.height_of D.State.bytes_of agenda.old world.old (update ∷ [])) (λ more states target. Sees (D.peer_of plan.now.engine) D.State.height_of D.State.bytes_of agenda.old world.old (update ∷ []) more states × (more ≡ update ∷ []) × (target ≡ target_count plan.now.participants plan.now.crashes world.old.exercise.delayed_started)) (λ more states. ⊥) watch.old) }
+    ensures sound { IfOk result (λ o. IfSome o (λ r. Sound (λ p. finalization_complaint p) plan.now.finalization_property D.State.height_of D.State.bytes_of world.new.seats.entries)) }
+    ensures states { IfOk result (λ o. IfSome o (λ r. r.states.items ≡ views_checked D.State.height_of D.State.bytes_of plan.now.crashes world.old)) }
+    ensures comes { IfErr result (StopComes (λ more u. (more ≡ []) × (u ≡ update)) (λ h. first_passed D.State.height_of 0 plan.now.crashes (standing_of world.old) ≡ Some h) watch.old) }
+    ensures answered { IfErr result (StopAnswered (λ p. finalization_name p) (λ p. finalization_complaint p) (λ p. property_name p) (λ p. property_complaint p) (λ c. exit_name c) (λ c. exit_verdict c) plan.now.finalization_property plan.now.property plan.now.exit_condition (λ more states. (more ≡ update ∷ []) × (states ≡ views_checked D.State.height_of D.State.bytes_of plan.now.crashes world.old)) (λ more states target. (more ≡ update ∷ []) × (states ≡ views_checked D.State.height_of D.State.bytes_of plan.now.crashes world.old) × (target ≡ target_count plan.now.participants plan.now.crashes world.old.exercise.delayed_started)) (λ more states. ⊥) watch.old) }
     ensures late { IfErr result (λ s. IsTrue (stops_late s)) }
 {
     match watch.observe(update) {
@@ -127,6 +133,7 @@ fn take_report<D: EngineDefinition>(
 fn check_now<D: EngineDefinition>(plan: &Plan<D>, world: &World<D>) -> Result<Vec<StateView>, Stop>
     ensures views { IfOk result (λ states. states.items ≡ active_views D.State.height_of D.State.bytes_of world.now.seats.entries) }
     ensures asked { IfErr result (λ s. IsTrue (stops_asked s)) }
+    ensures sound { OnOk result (Sound (λ p. finalization_complaint p) plan.now.finalization_property D.State.height_of D.State.bytes_of world.now.seats.entries) }
     ensures complains { IfErr result (IsComplaint (λ p. finalization_name p) (λ p. finalization_complaint p) plan.now.finalization_property (active_views D.State.height_of D.State.bytes_of world.now.seats.entries)) }
     ensures late { IfErr result (λ s. IsTrue (stops_late s)) }
 {
@@ -152,6 +159,8 @@ fn check_and_ask<D: EngineDefinition>(
 ) -> Result<Option<Reached>, Stop>
     ensures reached { IfOk result (λ o. IfSome o (λ r. IsReached (λ c. exit_verdict c) plan.now.exit_condition plan.now.required_finalizations (target_count plan.now.participants plan.now.crashes world.now.exercise.delayed_started) watch.now r)) }
     ensures count { IfOk result (λ o. IfSome o (λ r. r.count ≡ length watch.now)) }
+    ensures sound { OnOk result (Sound (λ p. finalization_complaint p) plan.now.finalization_property D.State.height_of D.State.bytes_of world.now.seats.entries) }
+    ensures states { IfOk result (λ o. IfSome o (λ r. r.states.items ≡ active_views D.State.height_of D.State.bytes_of world.now.seats.entries)) }
     ensures asked { IfErr result (λ s. IsTrue (stops_asked s)) }
     ensures answered { IfErr result (StopAnswered (λ p. finalization_name p) (λ p. finalization_complaint p) (λ p. property_name p) (λ p. property_complaint p) (λ c. exit_name c) (λ c. exit_verdict c) plan.now.finalization_property plan.now.property plan.now.exit_condition (λ more states. (more ≡ []) × (states ≡ active_views D.State.height_of D.State.bytes_of world.now.seats.entries)) (λ more states target. (more ≡ []) × (states ≡ active_views D.State.height_of D.State.bytes_of world.now.seats.entries) × (target ≡ target_count plan.now.participants plan.now.crashes world.now.exercise.delayed_started)) (λ more states. ⊥) watch.now) }
     ensures late { IfErr result (λ s. IsTrue (stops_late s)) }
@@ -170,7 +179,7 @@ fn drain_report<D: EngineDefinition>(
     update: FinalizationUpdate,
 ) -> Result<(), Stop>
     ensures updates { OnOk result (watch.new ≡ watch.old ++ update ∷ []) }
-    ensures comes { IfErr result (StopComes plan.now.crashes (λ u. u ≡ update) watch.old) }
+    ensures comes { IfErr result (StopComes (λ more u. (more ≡ []) × (u ≡ update)) (λ h. ⊥) watch.old) }
     ensures answered { IfErr result (StopAnswered (λ p. finalization_name p) (λ p. finalization_complaint p) (λ p. property_name p) (λ p. property_complaint p) (λ c. exit_name c) (λ c. exit_verdict c) plan.now.finalization_property plan.now.property plan.now.exit_condition (λ more states. (more ≡ update ∷ []) × (states ≡ active_views D.State.height_of D.State.bytes_of world.now.seats.entries)) (λ more states target. ⊥) (λ more states. ⊥) watch.old) }
     ensures late { IfErr result (λ s. IsTrue (stops_late s)) }
 {
@@ -194,14 +203,18 @@ fn next_report<D: EngineDefinition>(
     reached: Option<Reached>,
     update: FinalizationUpdate,
 ) -> Result<Option<Reached>, Stop>
-    requires { IfSome reached (λ r. IsReached (λ c. exit_verdict c) plan.now.exit_condition plan.now.required_finalizations (target_count plan.now.participants plan.now.crashes world.old.exercise.delayed_started) watch.old r) }
+    requires reached { IfSome reached (λ r. IsReached (λ c. exit_verdict c) plan.now.exit_condition plan.now.required_finalizations (target_count plan.now.participants plan.now.crashes world.old.exercise.delayed_started) watch.old r) }
+    requires sound { IfSome reached (λ r. Sound (λ p. finalization_complaint p) plan.now.finalization_property D.State.height_of D.State.bytes_of world.old.seats.entries) }
     ensures disturbs { OnOk result (Disturbs (D.peer_of plan.now.engine) agenda.old agenda.new world.old world.new) }
+    ensures strikes { OnOk result (MatchOption reached (Strikes (D.peer_of plan.now.engine) D.State.height_of plan.now.participants plan.now.crashes (Sound (λ p. finalization_complaint p) plan.now.finalization_property D.State.height_of D.State.bytes_of) agenda.old agenda.new world.old world.new) (λ q. (agenda.new ≡ agenda.old) × (world.new ≡ world.old))) }
     ensures updates { OnOk result (watch.new ≡ watch.old ++ update ∷ []) }
     ensures reached { IfOk result (λ o. IfSome o (λ r. IsReached (λ c. exit_verdict c) plan.now.exit_condition plan.now.required_finalizations (target_count plan.now.participants plan.now.crashes world.new.exercise.delayed_started) watch.new r)) }
     ensures started { IfOk result (λ o. o ≡ None → (reached ≡ None) × (world.new.exercise.delayed_started ≡ (world.old.exercise.delayed_started || starts plan.now.participants plan.now.crashes (tracker_of watch.new)))) }
     ensures met { IfOk result (λ o. IfSome o (λ r. (world.new.exercise.delayed_started ≡ world.old.exercise.delayed_started) × MatchOption reached (r.count ≡ length watch.new) (λ q. r.count ≡ q.count))) }
-    ensures comes { IfErr result (StopComes plan.now.crashes (λ u. u ≡ update) watch.old) }
-    ensures answered { IfErr result (StopAnswered (λ p. finalization_name p) (λ p. finalization_complaint p) (λ p. property_name p) (λ p. property_complaint p) (λ c. exit_name c) (λ c. exit_verdict c) plan.now.finalization_property plan.now.property plan.now.exit_condition (Sees (D.peer_of plan.now.engine) D.State.height_of D.State.bytes_of agenda.old world.old (update ∷ [])) (λ more states target. (reached ≡ None) × Sees (D.peer_of plan.now.engine) D.State.height_of D.State.bytes_of agenda.old world.old (update ∷ []) more states × (more ≡ update ∷ []) × (target ≡ target_count plan.now.participants plan.now.crashes world.old.exercise.delayed_started)) (λ more states. ⊥) watch.old) }
+    ensures sound { IfOk result (λ o. IfSome o (λ r. Sound (λ p. finalization_complaint p) plan.now.finalization_property D.State.height_of D.State.bytes_of world.new.seats.entries)) }
+    ensures states { IfOk result (λ o. IfSome o (λ r. MatchOption reached (r.states.items ≡ views_checked D.State.height_of D.State.bytes_of plan.now.crashes world.old) (λ q. r.states.items ≡ q.states.items))) }
+    ensures comes { IfErr result (StopComes (λ more u. (more ≡ []) × (u ≡ update)) (λ h. first_passed D.State.height_of 0 plan.now.crashes (standing_of world.old) ≡ Some h) watch.old) }
+    ensures answered { IfErr result (StopAnswered (λ p. finalization_name p) (λ p. finalization_complaint p) (λ p. property_name p) (λ p. property_complaint p) (λ c. exit_name c) (λ c. exit_verdict c) plan.now.finalization_property plan.now.property plan.now.exit_condition (λ more states. (reached ≡ None) × (more ≡ update ∷ []) × (states ≡ views_checked D.State.height_of D.State.bytes_of plan.now.crashes world.old)) (λ more states target. (reached ≡ None) × (more ≡ update ∷ []) × (states ≡ views_checked D.State.height_of D.State.bytes_of plan.now.crashes world.old) × (target ≡ target_count plan.now.participants plan.now.crashes world.old.exercise.delayed_started)) (λ more states. ⊥) watch.old) }
     ensures late { IfErr result (λ s. IsTrue (stops_late s)) }
 {
     match reached {
@@ -223,11 +236,13 @@ pub fn take_reports<D: EngineDefinition>(
     updates: Vec<FinalizationUpdate>,
 ) -> Result<Option<Reached>, Stop>
     ensures disturbs { OnOk result (Disturbs (D.peer_of plan.now.engine) agenda.old agenda.new world.old world.new) }
+    ensures struck { IfOk result (λ o. Struck (D.peer_of plan.now.engine) D.State.height_of plan.now.participants plan.now.crashes (Sound (λ p. finalization_complaint p) plan.now.finalization_property D.State.height_of D.State.bytes_of) (striking watch.old updates.items o) agenda.old agenda.new world.old world.new) }
     ensures updates { OnOk result (watch.new ≡ watch.old ++ updates.items) }
     ensures reached { IfOk result (λ o. IfSome o (λ r. IsReached (λ c. exit_verdict c) plan.now.exit_condition plan.now.required_finalizations (target_count plan.now.participants plan.now.crashes world.new.exercise.delayed_started) watch.new r)) }
     ensures started { IfOk result (λ o. world.new.exercise.delayed_started ≡ started_by plan.now.participants plan.now.crashes watch.old world.old.exercise.delayed_started updates.items o) }
-    ensures comes { IfErr result (StopComes plan.now.crashes (Contains updates.items) watch.old) }
-    ensures answered { IfErr result (StopAnswered (λ p. finalization_name p) (λ p. finalization_complaint p) (λ p. property_name p) (λ p. property_complaint p) (λ c. exit_name c) (λ c. exit_verdict c) plan.now.finalization_property plan.now.property plan.now.exit_condition (Sees (D.peer_of plan.now.engine) D.State.height_of D.State.bytes_of agenda.old world.old updates.items) (λ more states target. Sees (D.peer_of plan.now.engine) D.State.height_of D.State.bytes_of agenda.old world.old updates.items more states × (target ≡ target_at plan.now.participants plan.now.crashes watch.old world.old.exercise.delayed_started more)) (λ more states. ⊥) watch.old) }
+    ensures seen { IfOk result (λ o. IfSome o (MetOn (Sees (D.peer_of plan.now.engine) D.State.height_of D.State.bytes_of plan.now.participants plan.now.crashes (Sound (λ p. finalization_complaint p) plan.now.finalization_property D.State.height_of D.State.bytes_of) agenda.old world.old updates.items) watch.old)) }
+    ensures comes { IfErr result (StopComes (λ more u. (rest : _) × (updates.items ≡ more ++ u ∷ rest)) (SkipsAmong (D.peer_of plan.now.engine) D.State.height_of plan.now.participants plan.now.crashes (Sound (λ p. finalization_complaint p) plan.now.finalization_property D.State.height_of D.State.bytes_of) (length updates.items) agenda.old world.old) watch.old) }
+    ensures answered { IfErr result (StopAnswered (λ p. finalization_name p) (λ p. finalization_complaint p) (λ p. property_name p) (λ p. property_complaint p) (λ c. exit_name c) (λ c. exit_verdict c) plan.now.finalization_property plan.now.property plan.now.exit_condition (Sees (D.peer_of plan.now.engine) D.State.height_of D.State.bytes_of plan.now.participants plan.now.crashes (Sound (λ p. finalization_complaint p) plan.now.finalization_property D.State.height_of D.State.bytes_of) agenda.old world.old updates.items) (λ more states target. Sees (D.peer_of plan.now.engine) D.State.height_of D.State.bytes_of plan.now.participants plan.now.crashes (Sound (λ p. finalization_complaint p) plan.now.finalization_property D.State.height_of D.State.bytes_of) agenda.old world.old updates.items more states × (target ≡ target_at plan.now.participants plan.now.crashes watch.old world.old.exercise.delayed_started more)) (λ more states. ⊥) watch.old) }
     ensures late { IfErr result (λ s. IsTrue (stops_late s)) }
 {
     let mut reached = None;

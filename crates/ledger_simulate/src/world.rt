@@ -1,14 +1,18 @@
 //! The engines of a run and what surrounds them.
-ghost use Rattle.std.specs.Prelude.{◌≡◌, ◌⊎◌, ◌<◌, ◌++◌, ◌∷◌, ◌||◌, [], ℕ, IfErr, IfOk, IfSome, IsTrue, OnOk, false, filter, length, nat_lt, option_map, unwrap_or, vec_len};
+ghost use Rattle.std.specs.Prelude.{◌≡◌, ◌<◌, ◌%◌, ◌++◌, ◌∷◌, ◌||◌, [], IfErr, IfOk, IfSome, IsPermutation, IsSorted, IsTrue, List, OnOk, false, filter, get_or, length, option_map, remove, unwrap_or, vec_len};
 ghost use Rattle.std.specs.List.{list_any};
+ghost use Rattle.std.specs.Option.{option_map_or};
 ghost use Rattle.rand_pcg.specs.Lcg.{Lcg};
-ghost use Rattle.simulate_parts.specs.Seats.{stopped};
+ghost use Rattle.rand_pcg.specs.Pcg.{pcg32};
+ghost use Rattle.simulate_parts.specs.Seats.{active_peers};
 ghost use Rattle.simulate_parts.specs.Team.{names, place_of};
-ghost use Rattle.simulate_parts.specs.Tracker.{finalized_rounds};
-ghost use Rattle.ledger_simulate.specs.Causes.{Skips, is_passed};
-ghost use Rattle.ledger_simulate.specs.Delays.{delay_round, reaches, starts};
+ghost use Rattle.simulate_parts.specs.Tracker.{finalized_rounds, peer_cmp};
+ghost use Rattle.ledger_simulate.specs.Causes.{IsSkip};
+ghost use Rattle.ledger_simulate.specs.Delays.{Launches, delay_round, reaches, starts};
+ghost use Rattle.ledger_simulate.specs.Failures.{acted, crashed, crashed_all, first_passed, height_at, looked_at, no_tally, passed_at, picked, random_count, standing_of, struck_at_random, tally_of, window_entered, window_passed, windows_entered};
 ghost use Rattle.ledger_simulate.specs.Handling.{Disturbs, Stirs};
 ghost use Rattle.ledger_simulate.specs.Links.{changed_links, common_link};
+ghost use Rattle.ledger_simulate.specs.Opening.{starts as first_starts};
 ghost use Rattle.ledger_simulate.specs.Plans.{named_late, target_count};
 ghost use Rattle.ledger_simulate.specs.Stops.{stops_late};
 ghost use Rattle.ledger_simulate.specs.declared.event.Event.TheVariants.{Started};
@@ -49,6 +53,7 @@ impl<D: EngineDefinition> World<D> {
         ensures seats { IfOk result (λ w. w.seats.entries ≡ []) }
         ensures words { IfOk result (λ w. w.words ≡ words) }
         ensures started { IfOk result (λ w. w.exercise.delayed_started ≡ false) }
+        ensures tally { IfOk result (λ w. tally_of w.exercise ≡ no_tally (length plan.now.crashes)) }
         ensures rules { IfOk result (λ w. IfSome (D.carried_size plan.now.engine) (λ told. w.rules.max_size ≡ told) × IfSome (D.carried_on plan.now.engine) (λ told. w.rules.channels.items ≡ told)) }
         ensures links { IfOk result (λ w. (common_link w.links ≡ plan.now.link) × (changed_links w.links ≡ [])) }
     {
@@ -126,7 +131,7 @@ impl<D: EngineDefinition> World<D> {
 
     /// Stops a peer, counts the crash where it ran, and says whether it did.
     fn crash(&mut self, pk: &Peer) -> bool
-        ensures seats { self.new.seats.entries ≡ stopped self.old.seats.entries pk.now }
+        ensures standing { standing_of self.new ≡ crashed (standing_of self.old) pk.now }
         ensures words { self.new.words ≡ self.old.words }
         ensures links { self.new.links ≡ self.old.links }
         ensures rules { self.new.rules ≡ self.old.rules }
@@ -142,6 +147,7 @@ impl<D: EngineDefinition> World<D> {
     /// Stops a peer for a downtime.
     fn crash_for(&mut self, agenda: &mut Agenda, pk: Peer, downtime: u64) -> Result<(), OutOfMemory>
         ensures disturbs { OnOk result ((peer_of : _) → Disturbs peer_of agenda.old agenda.new self.old self.new) }
+        ensures standing { OnOk result (standing_of self.new ≡ crashed (standing_of self.old) pk) }
         ensures started { OnOk result (self.new.exercise.delayed_started ≡ self.old.exercise.delayed_started) }
     {
         if !self.crash(&pk) {
@@ -161,6 +167,7 @@ impl<D: EngineDefinition> World<D> {
         action: Action,
     ) -> Result<(), OutOfMemory>
         ensures stirs { OnOk result (Stirs (D.peer_of plan.now.engine) agenda.old agenda.new self.old self.new) }
+        ensures tally { OnOk result (tally_of self.new.exercise ≡ acted action (standing_of self.old)) }
         ensures started { OnOk result (self.new.exercise.delayed_started ≡ self.old.exercise.delayed_started) }
     {
         self.exercise.count_action();
@@ -217,6 +224,7 @@ impl<D: EngineDefinition> World<D> {
         agenda: &mut Agenda,
     ) -> Result<(), OutOfMemory>
         ensures stirs { OnOk result (Stirs (D.peer_of plan.now.engine) agenda.old agenda.new self.old self.new) }
+        ensures tally { OnOk result (tally_of self.new.exercise ≡ (struck_at_random plan.now.crashes self.old.words (standing_of self.old)).tally) }
         ensures started { OnOk result (self.new.exercise.delayed_started ≡ self.old.exercise.delayed_started) }
     {
         let Some(random) = random_of(plan.crashes.as_slice()) else {
@@ -241,6 +249,7 @@ impl<D: EngineDefinition> World<D> {
         downtime: u64,
     ) -> Result<(), OutOfMemory>
         ensures stirs { OnOk result ((peer_of : _) → Stirs peer_of agenda.old agenda.new self.old self.new) }
+        ensures standing { OnOk result (standing_of self.new ≡ crashed_all (standing_of self.old) peers.items) }
         ensures started { OnOk result (self.new.exercise.delayed_started ≡ self.old.exercise.delayed_started) }
     {
         for pk in peers {
@@ -255,8 +264,10 @@ impl<D: EngineDefinition> World<D> {
     /// Crashes the participants whose heights have entered the windows in which they are to crash.
     pub fn enter_windows(&mut self, plan: &Plan<D>, agenda: &mut Agenda) -> Result<(), Stop>
         ensures disturbs { OnOk result (Disturbs (D.peer_of plan.now.engine) agenda.old agenda.new self.old self.new) }
+        ensures standing { OnOk result (standing_of self.new ≡ windows_entered D.State.height_of 0 plan.now.crashes (standing_of self.old)) }
+        ensures unpassed { OnOk result (first_passed D.State.height_of 0 plan.now.crashes (standing_of self.old) ≡ None) }
         ensures started { OnOk result (self.new.exercise.delayed_started ≡ self.old.exercise.delayed_started) }
-        ensures skips { IfErr result (λ s. (s ≡ Stop.OutOfMemory) ⊎ ((height : ℕ) × (s ≡ Stop.Fault (PlanFault.SkippedWindow height)) × Skips plan.now.crashes height)) }
+        ensures skips { IfErr result (IsSkip (λ h. first_passed D.State.height_of 0 plan.now.crashes (standing_of self.old) ≡ Some h)) }
         ensures late { IfErr result (λ s. IsTrue (stops_late s)) }
     {
         for (index, crash) in plan.crashes.as_slice().iter().enumerate() {
@@ -271,8 +282,10 @@ impl<D: EngineDefinition> World<D> {
     /// Looks at the window of the configured failure at this place, if it is one.
     fn look_at(&mut self, agenda: &mut Agenda, index: usize, crash: &Crash) -> Result<(), Stop>
         ensures disturbs { OnOk result ((peer_of : _) → Disturbs peer_of agenda.old agenda.new self.old self.new) }
+        ensures standing { OnOk result (standing_of self.new ≡ looked_at D.State.height_of index crash.now (standing_of self.old)) }
+        ensures unpassed { OnOk result (passed_at D.State.height_of index crash.now (standing_of self.old) ≡ None) }
         ensures started { OnOk result (self.new.exercise.delayed_started ≡ self.old.exercise.delayed_started) }
-        ensures skips { IfErr result (λ s. (s ≡ Stop.OutOfMemory) ⊎ ((height : ℕ) × (s ≡ Stop.Fault (PlanFault.SkippedWindow height)) × IsTrue (is_passed height crash.now))) }
+        ensures skips { IfErr result (IsSkip (λ h. passed_at D.State.height_of index crash.now (standing_of self.old) ≡ Some h)) }
         ensures late { IfErr result (λ s. IsTrue (stops_late s)) }
     {
         match crash {
@@ -305,8 +318,10 @@ impl<D: EngineDefinition> World<D> {
         window: Window,
     ) -> Result<(), Stop>
         ensures disturbs { OnOk result ((peer_of : _) → Disturbs peer_of agenda.old agenda.new self.old self.new) }
+        ensures standing { OnOk result (standing_of self.new ≡ window_entered D.State.height_of index window.participant window.first window.last (standing_of self.old)) }
+        ensures unpassed { OnOk result (window_passed D.State.height_of index window.participant window.first window.last (standing_of self.old) ≡ None) }
         ensures started { OnOk result (self.new.exercise.delayed_started ≡ self.old.exercise.delayed_started) }
-        ensures skips { IfErr result (λ s. (s ≡ Stop.OutOfMemory) ⊎ ((height : ℕ) × (s ≡ Stop.Fault (PlanFault.SkippedWindow height)) × IsTrue (nat_lt window.last height))) }
+        ensures skips { IfErr result (IsSkip (λ h. window_passed D.State.height_of index window.participant window.first window.last (standing_of self.old) ≡ Some h)) }
         ensures late { IfErr result (λ s. IsTrue (stops_late s)) }
     {
         if self.exercise.has_entered(index) {
@@ -349,6 +364,8 @@ impl<D: EngineDefinition> World<D> {
         tracker: &ProgressTracker,
     ) -> Result<(), OutOfMemory>
         ensures disturbs { OnOk result (Disturbs (D.peer_of plan.now.engine) agenda.old agenda.new self.old self.new) }
+        ensures tally { OnOk result (tally_of self.new.exercise ≡ tally_of self.old.exercise) }
+        ensures launches { OnOk result ((launched : List Peer) × Launches plan.now.participants plan.now.crashes self.old.exercise.delayed_started self.new.exercise.delayed_started launched × (agenda.new.events ≡ agenda.old.events ++ first_starts launched)) }
         ensures started { OnOk result (self.new.exercise.delayed_started ≡ (self.old.exercise.delayed_started || starts plan.now.participants plan.now.crashes tracker.now)) }
     {
         let participants = plan.participants.as_slice();
@@ -376,7 +393,9 @@ impl<D: EngineDefinition> World<D> {
         agenda: &mut Agenda,
         participants: Vec<Peer>,
     ) -> Result<(), OutOfMemory>
-        ensures { OnOk result (Disturbs (D.peer_of plan.now.engine) agenda.old agenda.new self.old self.new) }
+        ensures disturbs { OnOk result (Disturbs (D.peer_of plan.now.engine) agenda.old agenda.new self.old self.new) }
+        ensures events { OnOk result (agenda.new.events ≡ agenda.old.events ++ first_starts participants.items) }
+        ensures exercise { OnOk result (self.new.exercise ≡ self.old.exercise) }
     {
         for pk in participants {
             match self.launch(plan, agenda, pk) {
@@ -406,7 +425,9 @@ pub struct Random {
 }
 
 /// The configured random failure.
-pub fn random_of(crashes: &[Crash]) -> Option<Random> {
+pub fn random_of(crashes: &[Crash]) -> Option<Random>
+    ensures { option_map_or (λ r. r.count) result 0 ≡ random_count crashes.now }
+{
     for crash in crashes {
         if let Crash::Random {
             frequency,
@@ -430,7 +451,9 @@ fn victims<D: EngineDefinition>(
     words: &mut Pcg32,
     seats: &Seats<D>,
     count: usize,
-) -> Result<Vec<Peer>, OutOfMemory> {
+) -> Result<Vec<Peer>, OutOfMemory>
+    ensures { IfOk result (λ peers. peers.items ≡ picked count words.old (active_peers seats.now.entries)) }
+{
     let mut left = active_keys(alloc, seats)?;
     let mut picked = Vec::new(alloc);
     for _ in 0..count {
@@ -445,6 +468,9 @@ fn victims<D: EngineDefinition>(
 /// Takes one of these peers out, by a word modulo their number.
 fn pick(words: &mut Pcg32, left: &mut Vec<Peer>) -> Peer
     requires { 0 < vec_len left.old }
+    ensures taken { result ≡ get_or left.old.items ((pcg32 words.old).0 % length left.old.items) result }
+    ensures left { left.new.items ≡ remove left.old.items ((pcg32 words.old).0 % length left.old.items) }
+    ensures words { words.new ≡ (pcg32 words.old).1 }
 {
     let at = words.next_word() as usize % left.len();
     left.remove(at)
@@ -513,23 +539,35 @@ fn count_late(participants: &[Peer], named: &[Peer]) -> usize
 }
 
 /// Those participants that are named, in ascending order.
-fn late_ones(
-    alloc: Global,
-    participants: &[Peer],
-    named: &[Peer],
-) -> Result<Vec<Peer>, OutOfMemory> {
-    let mut late = Vec::new(alloc);
-    for peer in participants {
-        if is_among(named, peer) {
-            late.push(*peer)?;
-        }
-    }
+fn late_ones(alloc: Global, participants: &[Peer], named: &[Peer]) -> Result<Vec<Peer>, OutOfMemory>
+    ensures permutation { IfOk result (λ late. IsPermutation (filter (names named.now) participants.now) late.items) }
+    ensures sorted { IfOk result (λ late. IsSorted peer_cmp late.items) }
+{
+    let mut late = late_among(alloc, participants, named)?;
     late.sort()?;
     Ok(late)
 }
 
+/// Those participants that are named.
+fn late_among(
+    alloc: Global,
+    participants: &[Peer],
+    named: &[Peer],
+) -> Result<Vec<Peer>, OutOfMemory>
+    ensures { IfOk result (λ late. late.items ≡ filter (names named.now) participants.now) }
+{
+    let late = participants
+        .iter()
+        .filter(|peer| is_among(named, *peer))
+        .copied()
+        .collect(alloc)?;
+    Ok(late)
+}
+
 /// The height of a peer's state, where it runs.
-fn height_of<D: EngineDefinition>(seats: &Seats<D>, pk: &Peer) -> Option<u64> {
+fn height_of<D: EngineDefinition>(seats: &Seats<D>, pk: &Peer) -> Option<u64>
+    ensures { result ≡ height_at D.State.height_of seats.now.entries pk.now }
+{
     match seats.get(pk) {
         Some(seat) => match &seat.running {
             Some(running) => Some(running.state.processed_height()),

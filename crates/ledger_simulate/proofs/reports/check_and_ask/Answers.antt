@@ -1,7 +1,8 @@
 use Rattle.ledger_simulate.proofs.Answering.{if_answered_fails, answered_complains}
-use Rattle.std.proofs.Common.{◌≡◌, refl, []}
+use Rattle.std.proofs.Common.{◌≡◌, refl, [], ap, ◌∙◌}
 use Rattle.ledger_simulate.specs.Plans.{target_count}
 use Rattle.simulate_parts.specs.Seats.{active_views}
+use Rattle.ledger_simulate.proofs.Delaying.{if_ok_some_map}
 use Rattle.ledger_simulate.proofs.reports.check_and_ask.Goals as goal
 
 pub returns-in-Ok-clause-answered : goal.returns-in-Ok-clause-answered
@@ -13,3 +14,6 @@ pub returns-in-Err-clause-answered : goal.returns-in-Err-clause-answered
 returns-in-Err-clause-answered g c =
     answered_complains (λ x. (goal.FinalizationProperty-dyn g (x.vtable, x.value)).finalization_name x.value) (λ x. (goal.FinalizationProperty-dyn g (x.vtable, x.value)).finalization_complaint x.value) (λ x. (goal.Property-dyn g (x.vtable, x.value)).property_name x.value) (λ x. (goal.Property-dyn g (x.vtable, x.value)).property_complaint x.value) (λ x. (goal.ExitCondition-dyn g (x.vtable, x.value)).exit_name x.value) (λ x. (goal.ExitCondition-dyn g (x.vtable, x.value)).exit_verdict x.value) c.args.plan.now.finalization_property c.args.plan.now.property c.args.plan.now.exit_condition (λ m v. (m ≡ []) × (v ≡ active_views g.D.State.ProcessedHeight.height_of g.D.State.ProcessedHeight.bytes_of c.args.world.now.seats.entries)) (λ m v n. (m ≡ []) × (v ≡ active_views g.D.State.ProcessedHeight.height_of g.D.State.ProcessedHeight.bytes_of c.args.world.now.seats.entries) × (n ≡ target_count c.args.plan.now.participants c.args.plan.now.crashes c.args.world.now.exercise.delayed_started)) (λ m v. ⊥)
     c.args.watch.now [] (active_views g.D.State.ProcessedHeight.height_of g.D.State.ProcessedHeight.bytes_of c.args.world.now.seats.entries) c.in-Err.stop (refl, refl) c.in-Err.ensures.complains
+
+pub returns-in-Ok-clause-states : goal.returns-in-Ok-clause-states
+returns-in-Ok-clause-states g c = if_ok_some_map c.ask.result (λ r same. ap (λ v. v.items) same ∙ c.in-Ok.ensures.views) c.ask.ensures.states

@@ -1,24 +1,30 @@
 use Rattle.std.specs.Vec.Iter.{into_iter_items}
-use Rattle.std.proofs.Common.{◌≡◌, ◌++◌, ◌∷◌, [], Contains, None, ap, ◌∙◌, arith, refl, sym, subst}
+use Rattle.std.proofs.Common.{List, ◌≡◌, ◌++◌, ◌∷◌, [], None, ap, ◌∙◌, arith, refl, sym, subst}
 use Rattle.std.proofs.lemmas.Grind.{common_steps}
 use Rattle.std.proofs.lemmas.List.{append-nil, append_assoc}
-use Rattle.ledger_simulate.proofs.Causing.{among_first, among_more, stop_wider}
+use Rattle.ledger_simulate.proofs.Causing.{stop_since}
 use Rattle.ledger_simulate.proofs.Reaches.{updates_more}
 use Rattle.ledger_simulate.proofs.Stirring.{disturbs_none, disturbs_then}
-use Rattle.ledger_simulate.proofs.Answering.{stop_answered_since, sees_then, left_more, sees_among}
+use Rattle.ledger_simulate.proofs.Answering.{left_more, stop_answered_since}
 use Rattle.ledger_simulate.specs.Answering.{Sees}
-use Rattle.ledger_simulate.specs.Delays.{started_by, target_at}
-use Rattle.ledger_simulate.specs.Plans.{target_count}
+use Rattle.ledger_simulate.specs.Delays.{started_by}
 use Rattle.ledger_simulate.proofs.Delaying.{some_map, started_step, target_more}
+use Rattle.ledger_simulate.specs.Handling.{Struck, striking}
+use Rattle.ledger_simulate.proofs.Turning.{met_step, struck_step, turn_within}
+use Rattle.ledger_simulate.specs.Runs.{Sound}
+use Rattle.simulate_parts.specs.declared.engine.StateView.{StateView}
+use Rattle.simulate_parts.specs.declared.tracker.FinalizationUpdate.{FinalizationUpdate}
+use Rattle.ledger_simulate.specs.Failures.{views_checked}
 use Rattle.ledger_simulate.proofs.reports.take_reports.Goals as goal
 
 pub loop-update-init : goal.loop-update-init
 loop-update-init g c = record {
   disturbs = disturbs_none (g.D.EngineDefinition.peer_of c.args.plan.now.engine) c.args.agenda.now c.args.world.now;
-  since = ([], sym (append-nil c.args.watch.now), c.into_iter-update-iterator.ensures.into_iter_gives.0, refl);
-  among = λ u left. subst (λ us. Contains us u) c.into_iter-update-iterator.ensures.into_iter_gives.0 left;
+  since = ([], sym (append-nil c.args.watch.now), c.into_iter-update-iterator.ensures.into_iter_gives.0, refl, (refl, refl));
   updates = ap (λ us. c.args.watch.now ++ us) c.into_iter-update-iterator.ensures.into_iter_gives.0;
   reached = tt;
+  sound = tt;
+  seen = tt;
 }
 
 pub loop-update-preserved : goal.loop-update-preserved
@@ -34,32 +40,76 @@ loop-update-preserved g c = record {
         c.loop-update.invariant.since.1 c.in-Ok.ensures.updates c.loop-update.invariant.since.3
         (some_map c.loop-update.reached (λ r at. at.within) c.loop-update.invariant.reached)
         c.in-Ok.ensures.started c.in-Ok.ensures.met,
+    struck_step (g.D.EngineDefinition.peer_of c.args.plan.now.engine) g.D.State.ProcessedHeight.height_of c.args.plan.now.participants c.args.plan.now.crashes (Sound (λ x. (goal.FinalizationProperty-dyn g (x.vtable, x.value)).finalization_complaint x.value) c.args.plan.now.finalization_property g.D.State.ProcessedHeight.height_of g.D.State.ProcessedHeight.bytes_of) c.args.watch.now c.loop-update.invariant.since.0 c.loop-update.watch c.next_report.new.watch c.loop-update.reached c.in-Ok.next c.in-Some.update
+        c.args.agenda.now c.loop-update.agenda c.next_report.new.agenda c.args.world.now c.loop-update.world c.next_report.new.world
+        c.loop-update.invariant.since.1 c.in-Ok.ensures.updates c.loop-update.invariant.since.4 (λ e. (c.in-Ok.ensures.started e).0)
+        (some_map c.in-Ok.next (λ r at. at.1) c.in-Ok.ensures.met) c.in-Ok.ensures.strikes,
   );
-  among = λ u left. c.loop-update.invariant.among u (among_more (into_iter_items c.loop-update.update-iterator) (into_iter_items c.next.new.self) c.in-Some.update u c.in-Some.ensures.steps.0 left);
   updates =
       updates_more c.loop-update.watch c.next_report.new.watch c.args.watch.now c.args.updates.items (into_iter_items c.loop-update.update-iterator) (into_iter_items c.next.new.self) c.in-Some.update
       c.loop-update.invariant.updates c.in-Some.ensures.steps.0 c.in-Ok.ensures.updates;
   reached = c.in-Ok.ensures.reached;
+  sound = c.in-Ok.ensures.sound;
+  seen =
+      met_step (Sees (g.D.EngineDefinition.peer_of c.args.plan.now.engine) g.D.State.ProcessedHeight.height_of g.D.State.ProcessedHeight.bytes_of c.args.plan.now.participants c.args.plan.now.crashes (Sound (λ x. (goal.FinalizationProperty-dyn g (x.vtable, x.value)).finalization_complaint x.value) c.args.plan.now.finalization_property g.D.State.ProcessedHeight.height_of g.D.State.ProcessedHeight.bytes_of) c.args.agenda.now c.args.world.now c.args.updates.items) c.args.watch.now c.loop-update.invariant.since.0 c.loop-update.watch c.next_report.new.watch c.loop-update.reached c.in-Ok.next c.in-Some.update (views_checked g.D.State.ProcessedHeight.height_of g.D.State.ProcessedHeight.bytes_of c.args.plan.now.crashes c.loop-update.world)
+      c.loop-update.invariant.since.1 c.in-Ok.ensures.updates
+      (λ none. record {
+        earlier = c.loop-update.invariant.since.0;
+        update = c.in-Some.update;
+        rest = into_iter_items c.next.new.self;
+        reported = sym c.loop-update.invariant.since.2 ∙ ap (λ us. c.loop-update.invariant.since.0 ++ us) c.in-Some.ensures.steps.0;
+        upto = refl;
+        made = c.loop-update.agenda;
+        world = c.loop-update.world;
+        struck = subst (λ o. Struck (g.D.EngineDefinition.peer_of c.args.plan.now.engine) g.D.State.ProcessedHeight.height_of c.args.plan.now.participants c.args.plan.now.crashes (Sound (λ x. (goal.FinalizationProperty-dyn g (x.vtable, x.value)).finalization_complaint x.value) c.args.plan.now.finalization_property g.D.State.ProcessedHeight.height_of g.D.State.ProcessedHeight.bytes_of) (striking c.args.watch.now c.loop-update.invariant.since.0 o) c.args.agenda.now c.loop-update.agenda c.args.world.now c.loop-update.world) none c.loop-update.invariant.since.4;
+        are = refl;
+      })
+      c.loop-update.invariant.seen (some_map c.in-Ok.next (λ r at. at.1) c.in-Ok.ensures.met) c.in-Ok.ensures.states;
 }
 
 pub returns-in-Err-clause-comes : goal.returns-in-Err-clause-comes
 returns-in-Err-clause-comes g c =
-    stop_wider c.args.plan.now.crashes (λ u. u ≡ c.in-Some.update) (Contains c.args.updates.items) c.args.watch.now c.loop-update.watch c.loop-update.invariant.since.0 c.loop-update.invariant.since.1
-    (λ u same. c.loop-update.invariant.among u (subst (Contains (into_iter_items c.loop-update.update-iterator)) (sym same) (among_first (into_iter_items c.loop-update.update-iterator) (into_iter_items c.next.new.self) c.in-Some.update c.in-Some.ensures.steps.0)))
+    let done = c.loop-update.invariant.since.0 in
+    stop_since _ _ _ _ c.args.watch.now c.loop-update.watch done c.loop-update.invariant.since.1
+    (λ m u came. (
+      into_iter_items c.next.new.self,
+      sym (c.loop-update.invariant.since.2)
+          ∙ ap (λ us. done ++ us) (c.in-Some.ensures.steps.0 ∙ ap (λ x. x ∷ into_iter_items c.next.new.self) (sym came.1))
+          ∙ ap (λ us. us ++ u ∷ into_iter_items c.next.new.self) (sym (ap (λ us. done ++ us) came.0 ∙ append-nil done)),
+    ))
+    (λ h skips. record {
+      count = striking c.args.watch.now done c.loop-update.reached;
+      within =
+          turn_within c.args.watch.now done c.loop-update.watch (into_iter_items c.loop-update.update-iterator) (into_iter_items c.next.new.self) c.args.updates.items c.in-Some.update c.loop-update.reached c.loop-update.invariant.since.1
+          (some_map c.loop-update.reached (λ r at. at.within) c.loop-update.invariant.reached) c.loop-update.invariant.since.2 c.in-Some.ensures.steps.0;
+      made = c.loop-update.agenda;
+      world = c.loop-update.world;
+      struck = c.loop-update.invariant.since.4;
+      skips = skips;
+    })
     c.in-Err.stop c.in-Err.ensures.comes
 
 pub returns-in-Err-clause-answered : goal.returns-in-Err-clause-answered
 returns-in-Err-clause-answered g c =
     let done = c.loop-update.invariant.since.0 in
-    stop_answered_since (λ x. (goal.FinalizationProperty-dyn g (x.vtable, x.value)).finalization_name x.value) (λ x. (goal.FinalizationProperty-dyn g (x.vtable, x.value)).finalization_complaint x.value) (λ x. (goal.Property-dyn g (x.vtable, x.value)).property_name x.value) (λ x. (goal.Property-dyn g (x.vtable, x.value)).property_complaint x.value) (λ x. (goal.ExitCondition-dyn g (x.vtable, x.value)).exit_name x.value) (λ x. (goal.ExitCondition-dyn g (x.vtable, x.value)).exit_verdict x.value) c.args.plan.now.finalization_property c.args.plan.now.property c.args.plan.now.exit_condition (Sees (g.D.EngineDefinition.peer_of c.args.plan.now.engine) g.D.State.ProcessedHeight.height_of g.D.State.ProcessedHeight.bytes_of c.loop-update.agenda c.loop-update.world (c.in-Some.update ∷ [])) (λ m v n. (c.loop-update.reached ≡ None) × Sees (g.D.EngineDefinition.peer_of c.args.plan.now.engine) g.D.State.ProcessedHeight.height_of g.D.State.ProcessedHeight.bytes_of c.loop-update.agenda c.loop-update.world (c.in-Some.update ∷ []) m v × (m ≡ c.in-Some.update ∷ []) × (n ≡ target_count c.args.plan.now.participants c.args.plan.now.crashes c.loop-update.world.exercise.delayed_started)) (λ m v. ⊥) (Sees (g.D.EngineDefinition.peer_of c.args.plan.now.engine) g.D.State.ProcessedHeight.height_of g.D.State.ProcessedHeight.bytes_of c.args.agenda.now c.args.world.now c.args.updates.items) (λ m v n. Sees (g.D.EngineDefinition.peer_of c.args.plan.now.engine) g.D.State.ProcessedHeight.height_of g.D.State.ProcessedHeight.bytes_of c.args.agenda.now c.args.world.now c.args.updates.items m v × (n ≡ target_at c.args.plan.now.participants c.args.plan.now.crashes c.args.watch.now c.args.world.now.exercise.delayed_started m)) (λ m v. ⊥)
+    let peer_of = g.D.EngineDefinition.peer_of c.args.plan.now.engine in
+    let sees : (m : List FinalizationUpdate) (v : List StateView) → c.loop-update.reached ≡ None → m ≡ c.in-Some.update ∷ [] → v ≡ views_checked g.D.State.ProcessedHeight.height_of g.D.State.ProcessedHeight.bytes_of c.args.plan.now.crashes c.loop-update.world → Sees peer_of g.D.State.ProcessedHeight.height_of g.D.State.ProcessedHeight.bytes_of c.args.plan.now.participants c.args.plan.now.crashes (Sound (λ x. (goal.FinalizationProperty-dyn g (x.vtable, x.value)).finalization_complaint x.value) c.args.plan.now.finalization_property g.D.State.ProcessedHeight.height_of g.D.State.ProcessedHeight.bytes_of) c.args.agenda.now c.args.world.now c.args.updates.items (done ++ m) v = λ m v none one views. record {
+      earlier = done;
+      update = c.in-Some.update;
+      rest = into_iter_items c.next.new.self;
+      reported = sym c.loop-update.invariant.since.2 ∙ ap (λ us. done ++ us) c.in-Some.ensures.steps.0;
+      upto = ap (λ us. done ++ us) one;
+      made = c.loop-update.agenda;
+      world = c.loop-update.world;
+      struck = subst (λ o. Struck peer_of g.D.State.ProcessedHeight.height_of c.args.plan.now.participants c.args.plan.now.crashes (Sound (λ x. (goal.FinalizationProperty-dyn g (x.vtable, x.value)).finalization_complaint x.value) c.args.plan.now.finalization_property g.D.State.ProcessedHeight.height_of g.D.State.ProcessedHeight.bytes_of) (striking c.args.watch.now done o) c.args.agenda.now c.loop-update.agenda c.args.world.now c.loop-update.world) none c.loop-update.invariant.since.4;
+      are = views;
+    } in
+    stop_answered_since (λ x. (goal.FinalizationProperty-dyn g (x.vtable, x.value)).finalization_name x.value) (λ x. (goal.FinalizationProperty-dyn g (x.vtable, x.value)).finalization_complaint x.value) (λ x. (goal.Property-dyn g (x.vtable, x.value)).property_name x.value) (λ x. (goal.Property-dyn g (x.vtable, x.value)).property_complaint x.value) (λ x. (goal.ExitCondition-dyn g (x.vtable, x.value)).exit_name x.value) (λ x. (goal.ExitCondition-dyn g (x.vtable, x.value)).exit_verdict x.value) c.args.plan.now.finalization_property c.args.plan.now.property c.args.plan.now.exit_condition _ _ (λ m v. ⊥) _ _ (λ m v. ⊥)
     c.args.watch.now c.loop-update.watch done
-    (λ m v sees.
-    sees_then (g.D.EngineDefinition.peer_of c.args.plan.now.engine) g.D.State.ProcessedHeight.height_of g.D.State.ProcessedHeight.bytes_of c.args.agenda.now c.loop-update.agenda c.args.world.now c.loop-update.world c.args.updates.items (done ++ m) v c.loop-update.invariant.disturbs
-    (sees_among (g.D.EngineDefinition.peer_of c.args.plan.now.engine) g.D.State.ProcessedHeight.height_of g.D.State.ProcessedHeight.bytes_of c.loop-update.agenda c.loop-update.world c.in-Some.update done (into_iter_items c.loop-update.update-iterator) (into_iter_items c.next.new.self) c.args.updates.items m v c.loop-update.invariant.since.2 c.in-Some.ensures.steps.0 sees))
+    (λ m v is. sees m v is.0 is.1 is.2)
     (λ m v n is. (
-      sees_then (g.D.EngineDefinition.peer_of c.args.plan.now.engine) g.D.State.ProcessedHeight.height_of g.D.State.ProcessedHeight.bytes_of c.args.agenda.now c.loop-update.agenda c.args.world.now c.loop-update.world c.args.updates.items (done ++ m) v c.loop-update.invariant.disturbs
-          (sees_among (g.D.EngineDefinition.peer_of c.args.plan.now.engine) g.D.State.ProcessedHeight.height_of g.D.State.ProcessedHeight.bytes_of c.loop-update.agenda c.loop-update.world c.in-Some.update done (into_iter_items c.loop-update.update-iterator) (into_iter_items c.next.new.self) c.args.updates.items m v c.loop-update.invariant.since.2 c.in-Some.ensures.steps.0 is.1),
-      target_more c.args.plan.now.participants c.args.plan.now.crashes c.args.watch.now done m c.args.world.now.exercise.delayed_started c.loop-update.world.exercise.delayed_started c.in-Some.update n (c.loop-update.invariant.since.3 ∙ ap (started_by c.args.plan.now.participants c.args.plan.now.crashes c.args.watch.now c.args.world.now.exercise.delayed_started done) is.0) is.2 is.3,
+      sees m v is.0 is.1 is.2,
+      target_more c.args.plan.now.participants c.args.plan.now.crashes c.args.watch.now done m c.args.world.now.exercise.delayed_started c.loop-update.world.exercise.delayed_started c.in-Some.update n (c.loop-update.invariant.since.3 ∙ ap (started_by c.args.plan.now.participants c.args.plan.now.crashes c.args.watch.now c.args.world.now.exercise.delayed_started done) is.0) is.1 is.3,
     ))
     (λ m v never. absurd never) c.loop-update.invariant.since.1 c.in-Err.stop c.in-Err.ensures.answered
 
@@ -69,3 +119,10 @@ returns-clause-started g c =
     let none : into_iter_items c.loop-update.update-iterator ≡ [] = grind (arith, common_steps) in
     c.loop-update.invariant.since.3
     ∙ ap (λ us. started_by c.args.plan.now.participants c.args.plan.now.crashes c.args.watch.now c.args.world.now.exercise.delayed_started us c.loop-update.reached) (sym (append-nil done) ∙ ap (λ us. done ++ us) (sym none) ∙ c.loop-update.invariant.since.2)
+
+pub returns-clause-struck : goal.returns-clause-struck
+returns-clause-struck g c =
+    let done = c.loop-update.invariant.since.0 in
+    let none : into_iter_items c.loop-update.update-iterator ≡ [] = grind (arith, common_steps) in
+    let whole = sym (append-nil done) ∙ ap (λ us. done ++ us) (sym none) ∙ c.loop-update.invariant.since.2 in
+    subst (λ us. Struck (g.D.EngineDefinition.peer_of c.args.plan.now.engine) g.D.State.ProcessedHeight.height_of c.args.plan.now.participants c.args.plan.now.crashes (Sound (λ x. (goal.FinalizationProperty-dyn g (x.vtable, x.value)).finalization_complaint x.value) c.args.plan.now.finalization_property g.D.State.ProcessedHeight.height_of g.D.State.ProcessedHeight.bytes_of) (striking c.args.watch.now us c.loop-update.reached) c.args.agenda.now c.loop-update.agenda c.args.world.now c.loop-update.world) whole c.loop-update.invariant.since.4

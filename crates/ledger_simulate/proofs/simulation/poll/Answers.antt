@@ -1,10 +1,11 @@
-use Rattle.std.proofs.Common.{◌≡◌, [], refl}
+use Rattle.std.proofs.Common.{◌≡◌, [], refl, ap, ◌∙◌}
 use Rattle.simulate_parts.specs.Seats.{active_views}
 use Rattle.ledger_simulate.specs.Plans.{target_count}
 use Rattle.ledger_simulate.specs.declared.event.Event.TheVariants.{ExitPoll}
 use Rattle.ledger_simulate.proofs.Results.{on_any}
 use Rattle.ledger_simulate.proofs.Stirring.{adds_one, stirs_still}
 use Rattle.ledger_simulate.proofs.Answering.{if_answered_fails}
+use Rattle.ledger_simulate.proofs.Delaying.{if_ok_some_both}
 use Rattle.ledger_simulate.proofs.simulation.poll.Goals as goal
 
 pub returns-in-Ok-clause-stirs : goal.returns-in-Ok-clause-stirs
@@ -15,5 +16,8 @@ returns-in-Ok-clause-stirs g c =
 
 pub returns-in-Ok-clause-answered : goal.returns-in-Ok-clause-answered
 returns-in-Ok-clause-answered g c =
-    if_answered_fails (λ x. (goal.FinalizationProperty-dyn g (x.vtable, x.value)).finalization_name x.value) (λ x. (goal.FinalizationProperty-dyn g (x.vtable, x.value)).finalization_complaint x.value) (λ x. (goal.Property-dyn g (x.vtable, x.value)).property_name x.value) (λ x. (goal.Property-dyn g (x.vtable, x.value)).property_complaint x.value) (λ x. (goal.ExitCondition-dyn g (x.vtable, x.value)).exit_name x.value) (λ x. (goal.ExitCondition-dyn g (x.vtable, x.value)).exit_verdict x.value) c.args.plan.now.finalization_property c.args.plan.now.property c.args.plan.now.exit_condition (λ m v. (m ≡ []) × (v ≡ active_views g.D.State.ProcessedHeight.height_of g.D.State.ProcessedHeight.bytes_of c.args.world.now.seats.entries)) (λ m v n. (m ≡ []) × (v ≡ active_views g.D.State.ProcessedHeight.height_of g.D.State.ProcessedHeight.bytes_of c.args.world.now.seats.entries) × (n ≡ target_count c.args.plan.now.participants c.args.plan.now.crashes c.args.world.now.exercise.delayed_started)) (λ m v. ⊥)
+    if_answered_fails (λ x. (goal.FinalizationProperty-dyn g (x.vtable, x.value)).finalization_name x.value) (λ x. (goal.FinalizationProperty-dyn g (x.vtable, x.value)).finalization_complaint x.value) (λ x. (goal.Property-dyn g (x.vtable, x.value)).property_name x.value) (λ x. (goal.Property-dyn g (x.vtable, x.value)).property_complaint x.value) (λ x. (goal.ExitCondition-dyn g (x.vtable, x.value)).exit_name x.value) (λ x. (goal.ExitCondition-dyn g (x.vtable, x.value)).exit_verdict x.value) c.args.plan.now.finalization_property c.args.plan.now.property c.args.plan.now.exit_condition (λ m v. ⊥) (λ m v n. (m ≡ []) × (v ≡ active_views g.D.State.ProcessedHeight.height_of g.D.State.ProcessedHeight.bytes_of c.args.world.now.seats.entries) × (n ≡ target_count c.args.plan.now.participants c.args.plan.now.crashes c.args.world.now.exercise.delayed_started)) (λ m v. ⊥)
     c.args.watch.now c.in-Ok.states.items (target_count c.args.plan.now.participants c.args.plan.now.crashes c.args.world.now.exercise.delayed_started) c.ask.result (refl, c.in-Ok.ensures.views, refl) c.ask.ensures.fails
+
+pub returns-in-Ok-clause-seen : goal.returns-in-Ok-clause-seen
+returns-in-Ok-clause-seen g c = if_ok_some_both c.ask.result (λ r count same. (count, ap (λ v. v.items) same ∙ c.in-Ok.ensures.views)) c.ask.ensures.count c.ask.ensures.states

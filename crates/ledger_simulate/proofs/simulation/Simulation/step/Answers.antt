@@ -17,3 +17,6 @@ returns-clause-started g c = λ next h. c.advance.ensures.started next h
 
 pub returns-clause-delayed : goal.returns-clause-delayed
 returns-clause-delayed g c = λ r h. c.advance.ensures.delayed r h
+
+pub returns-clause-counts : goal.returns-clause-counts
+returns-clause-counts g c = λ r h. c.advance.ensures.counts r h

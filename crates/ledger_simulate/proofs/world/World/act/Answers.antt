@@ -10,7 +10,7 @@ returns-in-Ok-clause-stirs g c =
 pub returns-in-Crash-clause-stirs : goal.returns-in-Crash-clause-stirs
 returns-in-Crash-clause-stirs g c =
     (disturbs_stop (g.D.EngineDefinition.peer_of c.args.plan.now.engine) c.args.agenda.now c.args.agenda.now c.args.self.now c.crash.new.self _
-    (adds_none c.args.agenda.now c.args.agenda.now refl) c.crash.ensures.seats c.crash.ensures.rules c.crash.ensures.words c.crash.ensures.links).stirs
+    (adds_none c.args.agenda.now c.args.agenda.now refl) (ap (λ s. s.seats) c.crash.ensures.standing) c.crash.ensures.rules c.crash.ensures.words c.crash.ensures.links).stirs
 
 pub returns-in-Ok-relaunch-clause-stirs : goal.returns-in-Ok-relaunch-clause-stirs
 returns-in-Ok-relaunch-clause-stirs g c =

@@ -1,4 +1,7 @@
-use Rattle.std.proofs.Common.{◌∙◌}
+use Rattle.std.proofs.Common.{◌≡◌, [], sym, ap, ◌∙◌, arith}
+use Rattle.std.proofs.lemmas.Grind.{common_steps}
+use Rattle.std.specs.Vec.Iter.{into_iter_items}
+use Rattle.ledger_simulate.specs.Failures.{crashed_all, standing_of}
 use Rattle.ledger_simulate.proofs.Stirring.{stirs_then}
 use Rattle.ledger_simulate.proofs.world.World.crash_all.Goals as goal
 
@@ -7,5 +10,14 @@ loop-pk-preserved g c = record {
   stirs = λ peer_of.
       stirs_then peer_of c.args.agenda.now c.loop-pk.agenda c.crash_for.new.agenda c.args.self.now c.loop-pk.self c.crash_for.new.self
       (c.loop-pk.invariant.stirs peer_of) (c.in-Ok.ensures.disturbs peer_of).stirs;
+  standing =
+      ap (λ s. crashed_all s (into_iter_items c.next.new.self)) c.in-Ok.ensures.standing
+      ∙ ap (crashed_all (standing_of c.loop-pk.self)) (sym c.in-Some.ensures.steps.0)
+      ∙ c.loop-pk.invariant.standing;
   started = c.in-Ok.ensures.started ∙ c.loop-pk.invariant.started;
 }
+
+pub returns-clause-standing : goal.returns-clause-standing
+returns-clause-standing g c =
+    let none : into_iter_items c.loop-pk.pk-iterator ≡ [] = grind (arith, common_steps) in
+    ap (crashed_all (standing_of c.loop-pk.self)) (sym none) ∙ c.loop-pk.invariant.standing

@@ -1,0 +1,80 @@
+-- The failures that the reports of a step set off, one report after another.
+use Rattle.std.proofs.Common.{◌≡◌, ◌≤◌, ◌<◌, ◌+◌, ◌-◌, ℕ, zero, suc, Contains, IfSome, List, [], ◌∷◌, ◌++◌, MatchOption, Option, Some, None, length, refl, sym, ap, ◌∙◌, subst, arith, length-append}
+use Rattle.std.proofs.lemmas.List.Elements.{Contains-append_left, Contains-append_right, Contains-push}
+use Rattle.simulate_parts.specs.declared.engine.StateView.{StateView}
+use Rattle.simulate_parts.specs.declared.peer.Peer.{Peer}
+use Rattle.simulate_parts.specs.declared.schedule.Crash.{Crash}
+use Rattle.simulate_parts.specs.declared.seats.Seat.{Seat}
+use Rattle.simulate_parts.specs.declared.tracker.FinalizationUpdate.{FinalizationUpdate}
+use Rattle.ledger_simulate.specs.Answering.{MetOn}
+use Rattle.ledger_simulate.specs.Handling.{Disturbs, Strikes, Struck, striking}
+use Rattle.ledger_simulate.specs.Queue.{AgendaView}
+use Rattle.ledger_simulate.specs.declared.reports.Reached.{Reached}
+use Rattle.ledger_simulate.specs.declared.world.World.{World}
+use Rattle.ledger_simulate.proofs.Stirring.{disturbs_none, disturbs_then}
+
+-- no more reports than there are set failures off
+striking_within : (before done now : List FinalizationUpdate) (reached : Option Reached) → now ≡ before ++ done → IfSome reached (λ r. r.count ≤ length now) → striking before done reached ≤ length done
+striking_within before done now None since within = omega arith
+striking_within before done now (Some r) since within =
+    let all : length now ≡ length before + length done = ap length since ∙ length-append before done in
+    let inside : r.count ≤ length now = within in
+    omega arith
+
+-- a report that is left comes after fewer than there are
+pub turn_within : (before done now left rest all : List FinalizationUpdate) (update : FinalizationUpdate) (reached : Option Reached) → now ≡ before ++ done → IfSome reached (λ r. r.count ≤ length now) → done ++ left ≡ all → left ≡ update ∷ rest → striking before done reached < length all
+turn_within before done now left rest all update reached since within whole first =
+    let upto : striking before done reached ≤ length done = striking_within before done now reached since within in
+    let long : length all ≡ length done + length left = sym (ap length whole) ∙ length-append done left in
+    let some : length left ≡ length rest + 1 = ap length first ∙ omega arith in
+    omega arith
+
+-- a report in its turn is one of them
+pub in_turn : (all more rest : List FinalizationUpdate) (update : FinalizationUpdate) → all ≡ more ++ update ∷ rest → Contains all update
+in_turn all more rest update is =
+    subst (λ us. Contains us update) (sym is)
+    (Contains-append_right more (update ∷ rest) update (Contains-append_left (update ∷ []) rest update (Contains-push [] update)))
+
+-- the exit condition was met before this report, or as it was checked
+pub met_step : (seen : List FinalizationUpdate → List StateView → Type 0) (before done now_reports new_reports : List FinalizationUpdate) (prior next : Option Reached) (update : FinalizationUpdate) (views : List StateView) → now_reports ≡ before ++ done → new_reports ≡ now_reports ++ update ∷ [] → (prior ≡ None → seen (done ++ update ∷ []) views) → IfSome prior (MetOn seen before) → IfSome next (λ r. MatchOption prior (r.count ≡ length new_reports) (λ q. r.count ≡ q.count)) → IfSome next (λ r. MatchOption prior (r.states.items ≡ views) (λ q. r.states.items ≡ q.states.items)) → IfSome next (MetOn seen before)
+met_step seen before done now_reports new_reports prior None update views since grown here so_far counts states = tt
+met_step seen before done now_reports new_reports None (Some r) update views since grown here so_far counts states =
+    let all : length now_reports ≡ length before + length done = ap length since ∙ length-append before done in
+    let long : length new_reports ≡ length now_reports + 1 = ap length grown ∙ length-append now_reports (update ∷ []) in
+    let more : length (done ++ update ∷ []) ≡ length done + 1 = length-append done (update ∷ []) in
+    let at : r.count ≡ length new_reports = counts in
+    (done ++ update ∷ [], omega arith, subst (seen (done ++ update ∷ [])) (sym states) (here refl))
+met_step seen before done now_reports new_reports (Some q) (Some r) update views since grown here so_far counts states =
+    (so_far.0, counts ∙ so_far.1, subst (seen so_far.0) (sym states) so_far.2)
+
+module _ {D E S : Type 0} (peer_of : E → Peer) (height : S → ℕ) (participants : List Peer) (crashes : List Crash) (holds : List (Peer × Seat D E S) → Type 0) where
+  strikes_disturb : (a b : AgendaView) (u v : World D E S) → Strikes peer_of height participants crashes holds a b u v → Disturbs peer_of a b u v
+  strikes_disturb a b u v strikes = disturbs_then peer_of a strikes.made b u strikes.mid v strikes.enters strikes.disturbs
+
+  -- what they do to the engines
+  pub struck_disturbs : (n : ℕ) (a b : AgendaView) (u v : World D E S) → Struck peer_of height participants crashes holds n a b u v → Disturbs peer_of a b u v
+  struck_disturbs zero a b u v struck =
+      subst (λ x. Disturbs peer_of a x u v) (sym struck.0) (subst (λ (w : World D E S). Disturbs peer_of a a u w) (sym struck.1) (disturbs_none peer_of a u))
+  struck_disturbs (suc n) a b u v struck =
+      disturbs_then peer_of a struck.0 b u struck.1 v (struck_disturbs n a struck.0 u struck.1 struck.2) (strikes_disturb struck.0 b struck.1 v struck.3)
+
+  -- one report more
+  pub struck_step : (before done now_reports new_reports : List FinalizationUpdate) (prior next : Option Reached) (update : FinalizationUpdate) (a m b : AgendaView) (u w v : World D E S) → now_reports ≡ before ++ done → new_reports ≡ now_reports ++ update ∷ [] → Struck peer_of height participants crashes holds (striking before done prior) a m u w → (next ≡ None → prior ≡ None) → IfSome next (λ r. MatchOption prior (r.count ≡ length new_reports) (λ q. r.count ≡ q.count)) → MatchOption prior (Strikes peer_of height participants crashes holds m b w v) (λ q. (b ≡ m) × (v ≡ w)) → Struck peer_of height participants crashes holds (striking before (done ++ update ∷ []) next) a b u v
+  struck_step before done now_reports new_reports None None update a m b u w v since grown struck none met strikes =
+      let more : suc (length done) ≡ length (done ++ update ∷ []) = sym (length-append done (update ∷ []) ∙ omega arith) in
+      subst (λ n. Struck peer_of height participants crashes holds n a b u v) more (m, w, struck, strikes)
+  struck_step before done now_reports new_reports None (Some r) update a m b u w v since grown struck none met strikes =
+      let all : length now_reports ≡ length before + length done = ap length since ∙ length-append before done in
+      let long : length new_reports ≡ length now_reports + 1 = ap length grown ∙ length-append now_reports (update ∷ []) in
+      let at : r.count ≡ length new_reports = met in
+      let more : suc (length done) ≡ r.count - length before = omega arith in
+      subst (λ n. Struck peer_of height participants crashes holds n a b u v) more (m, w, struck, strikes)
+  struck_step before done now_reports new_reports (Some q) None update a m b u w v since grown struck none met strikes = absurd (some_none (none refl))
+    where
+      some_none : Some q ≡ None → ⊥
+      some_none e = cc
+  struck_step before done now_reports new_reports (Some q) (Some r) update a m b u w v since grown struck none met strikes =
+      let same : r.count - length before ≡ q.count - length before = ap (λ n. n - length before) met in
+      subst (λ n. Struck peer_of height participants crashes holds n a b u v) (sym same)
+      (subst (λ x. Struck peer_of height participants crashes holds (q.count - length before) a x u v) (sym strikes.0)
+      (subst (λ (x : World D E S). Struck peer_of height participants crashes holds (q.count - length before) a m u x) (sym strikes.1) struck))
