@@ -56,11 +56,22 @@ impl<W: Write> Writing<W> {
 }
 
 impl<W: Write> Sink for Writing<W> {
+    ghost use Rattle.std.specs.Prelude.{◌≡◌, ◌<◌, IfOk, OnOk, length};
+    ghost use Rattle.std.specs.Io.{WritesAtMost};
+    ghost use Rattle.std.specs.Io.KnownBytes.{WriteAppends};
+    ghost use Rattle.ledger_codec.specs.Causes.{HasCauseOf};
+
     ghost written = { λ s. W.contents s.inner };
 
     ghost faults = { λ s. s.faults };
 
-    fn write(&mut self, bytes: &[u8]) -> Result<usize, SinkError> {
+    fn write(&mut self, bytes: &[u8]) -> Result<usize, SinkError>
+        ensures bound { WritesAtMost result bytes.now }
+        ensures progress { IfOk result (λ n. 0 < length bytes.now → 0 < n) }
+        ensures bytes { WriteAppends (W.contents self.old.inner) (W.contents self.new.inner) result bytes.now }
+        ensures cause { HasCauseOf Failed self.old.faults self.new.faults result }
+        ensures steady { OnOk result (self.new.faults ≡ self.old.faults) }
+    {
         match self.inner.write(bytes) {
             Ok(count) if count > 0 || bytes.is_empty() => Ok(count),
             _ => {
@@ -107,11 +118,26 @@ impl MemorySink {
 }
 
 impl Sink for MemorySink {
-    ghost written = { λ s. Some s.bytes.items };
+    ghost use Rattle.std.specs.Prelude.{◌≡◌, ◌<◌, ◌↔◌, Some, IfOk, IsErrOf, IsTrue, length};
+    ghost use Rattle.std.specs.Io.{WritesAtMost};
+    ghost use Rattle.std.specs.Io.KnownBytes.{WriteAppends};
+    ghost use Rattle.ledger_codec.specs.Causes.{HasCauseOf};
+    ghost use Rattle.ledger_codec.specs.Memory.{sink_bytes, sink_calls, sink_failing, is_among, next_call};
+
+    ghost written = { λ s. Some (sink_bytes s) };
 
     ghost faults = { λ s. s.faults };
 
-    fn write(&mut self, bytes: &[u8]) -> Result<usize, SinkError> {
+    fn write(&mut self, bytes: &[u8]) -> Result<usize, SinkError>
+        ensures bound { WritesAtMost result bytes.now }
+        ensures progress { IfOk result (λ n. 0 < length bytes.now → 0 < n) }
+        ensures bytes { WriteAppends (Some (sink_bytes self.old)) (Some (sink_bytes self.new)) result bytes.now }
+        ensures cause { HasCauseOf Failed self.old.faults self.new.faults result }
+        ensures fails { IsErrOf result Failed ↔ IsTrue (is_among (sink_calls self.old) (sink_failing self.old)) }
+        ensures steady { (IsErrOf result Failed → ⊥) → self.new.faults ≡ self.old.faults }
+        ensures calls { sink_calls self.new ≡ next_call (sink_calls self.old) }
+        ensures failing { sink_failing self.new ≡ sink_failing self.old }
+    {
         let call = self.calls;
         self.calls = self.calls.saturating_add(1);
         if self.failing.contains(&call) {

@@ -47,11 +47,21 @@ impl<R: Read> Reading<R> {
 }
 
 impl<R: Read> Source for Reading<R> {
+    ghost use Rattle.std.specs.Prelude.{◌≡◌, OnOk};
+    ghost use Rattle.std.specs.Io.{ReadsAtMost};
+    ghost use Rattle.std.specs.Io.KnownBytes.{ReadConsumes};
+    ghost use Rattle.ledger_codec.specs.Causes.{HasCause};
+
     ghost left = { λ s. R.remaining s.inner };
 
     ghost faults = { λ s. s.faults };
 
-    fn read(&mut self, buffer: &mut [u8]) -> Result<usize, SourceFailed> {
+    fn read(&mut self, buffer: &mut [u8]) -> Result<usize, SourceFailed>
+        ensures bound { ReadsAtMost result buffer.new }
+        ensures bytes { ReadConsumes (R.remaining self.old.inner) (R.remaining self.new.inner) result buffer.new }
+        ensures cause { HasCause self.old.faults self.new.faults result }
+        ensures steady { OnOk result (self.new.faults ≡ self.old.faults) }
+    {
         match self.inner.read(buffer) {
             Ok(count) => Ok(count),
             Err(_) => {
@@ -94,7 +104,7 @@ impl MemorySource {
 }
 
 impl Source for MemorySource {
-    ghost use Rattle.std.specs.Prelude.{◌≡◌, Some, is_err};
+    ghost use Rattle.std.specs.Prelude.{◌≡◌, Some, OnOk, is_err};
     ghost use Rattle.std.specs.Io.{ReadsAtMost};
     ghost use Rattle.std.specs.Io.KnownBytes.{ReadConsumes};
     ghost use Rattle.ledger_codec.specs.Causes.{HasCause};
@@ -109,6 +119,7 @@ impl Source for MemorySource {
         ensures bytes { ReadConsumes (Some (source_bytes self.old)) (Some (source_bytes self.new)) result buffer.new }
         ensures cause { HasCause self.old.faults self.new.faults result }
         ensures fails { is_err result ≡ is_among (source_calls self.old) (source_failing self.old) }
+        ensures steady { OnOk result (self.new.faults ≡ self.old.faults) }
         ensures calls { source_calls self.new ≡ next_call (source_calls self.old) }
         ensures failing { source_failing self.new ≡ source_failing self.old }
     {
