@@ -12,19 +12,21 @@ use simulate_parts::{
 use std::alloc::Global;
 use std::test::Fail;
 
-/// The bytes that a state shows.
+/// The bytes that a state shows. Its height is their number.
 #[derive(Drop)]
 struct Log {
     bytes: Vec<u8>,
 }
 
 impl ProcessedHeight for Log {
-    ghost height_of = { λ _. 0 };
+    ghost use Rattle.std.specs.Prelude.{vec_len};
+
+    ghost height_of = { λ s. vec_len s.bytes };
 
     ghost bytes_of = { λ s. s.bytes.items };
 
     fn processed_height(&self) -> u64 {
-        0
+        self.bytes.len() as u64
     }
 
     fn shown(&self, alloc: Global) -> Result<Vec<u8>, OutOfMemory> {
@@ -241,6 +243,84 @@ fn finds_a_fork_behind_the_end(rt: HostRuntime) -> Result<(), OutOfMemory> {
         .required_finalizations(2)
         .build();
     assert!(rt; is_forked(plan.run(alloc)));
+    Ok(())
+}
+
+/// The place of the failure that came to nothing, where a run ended so.
+fn missed(run: Result<PlanResult, SimEnd>) -> Option<usize> {
+    match run {
+        Err(SimEnd::Fault(ended)) => match ended.fault() {
+            PlanFault::NotExercised { index } => Some(*index),
+            _ => None,
+        },
+        _ => None,
+    }
+}
+
+/// The height that skipped a window, where a run ended so.
+fn skipped(run: Result<PlanResult, SimEnd>) -> Option<u64> {
+    match run {
+        Err(SimEnd::Fault(ended)) => match ended.fault() {
+            PlanFault::SkippedWindow { height } => Some(*height),
+            _ => None,
+        },
+        _ => None,
+    }
+}
+
+/// A window of heights of the first peer. The late reporter has height 2 as it reports.
+fn window(first: u64, last: u64) -> Crash {
+    Crash::ProcessedHeight {
+        participant: Peer(1),
+        first,
+        last,
+        downtime: 1,
+    }
+}
+
+/// A random crash that is never due.
+fn never_due() -> Crash {
+    Crash::Random {
+        frequency: 600_000,
+        downtime: 1,
+        count: 1,
+    }
+}
+
+#[test]
+fn names_the_first_failure_that_came_to_nothing(rt: HostRuntime) -> Result<(), OutOfMemory> {
+    let alloc = rt.alloc();
+    let builder = PlanBuilder::new(alloc, late_reporter())?.required_finalizations(1);
+    let builder = builder.crash(Crash::Schedule(bumpy(alloc)?))?;
+    let builder = builder.crash(window(3, 9))?;
+    assert_eq!(rt; missed(builder.build().run(alloc)), Some(1));
+    Ok(())
+}
+
+#[test]
+fn misses_a_random_crash_where_none_ran(rt: HostRuntime) -> Result<(), OutOfMemory> {
+    let alloc = rt.alloc();
+    let builder = PlanBuilder::new(alloc, late_reporter())?.required_finalizations(1);
+    let builder = builder.crash(never_due())?;
+    assert_eq!(rt; missed(builder.build().run(alloc)), Some(0));
+    Ok(())
+}
+
+#[test]
+fn counts_a_crash_in_a_window(rt: HostRuntime) -> Result<(), OutOfMemory> {
+    let alloc = rt.alloc();
+    let builder = PlanBuilder::new(alloc, late_reporter())?.required_finalizations(1);
+    let builder = builder.crash(window(2, 2))?;
+    assert_eq!(rt; crashes_of(builder.build().run(alloc)), Some(1));
+    Ok(())
+}
+
+#[test]
+fn ends_where_a_window_is_skipped(rt: HostRuntime) -> Result<(), OutOfMemory> {
+    let alloc = rt.alloc();
+    let builder = PlanBuilder::new(alloc, late_reporter())?.required_finalizations(1);
+    let builder = builder.crash(window(0, 1))?;
+    assert_eq!(rt; skipped(builder.build().run(alloc)), Some(2));
     Ok(())
 }
 
