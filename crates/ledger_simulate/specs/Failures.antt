@@ -27,6 +27,7 @@ pub record Tally : Type 0 where
 abbrev pub no_tally : ℕ → Tally
 no_tally failures = record { ran = 0; actions = 0; entered = replicate failures false }
 
+-- the same of what a run has counted
 abbrev pub tally_of : Exercise → Tally
 tally_of e = record { ran = e.crashes; actions = e.scheduled_actions; entered = e.entered.items }
 
@@ -35,6 +36,7 @@ pub record Standing (D E S : Type 0) : Type 0 where
   pub seats : List (Peer × Seat D E S)
   pub tally : Tally
 
+-- the same of a run's world
 abbrev pub standing_of : {D E S : Type 0} → World D E S → Standing D E S
 standing_of w = record { seats = w.seats.entries; tally = tally_of w.exercise }
 
