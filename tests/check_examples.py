@@ -8,6 +8,7 @@ import pathlib
 import random
 import subprocess
 import sys
+import time
 
 sys.path.insert(0, str(pathlib.Path(__file__).parent))
 from reference import local  # noqa: E402
@@ -47,27 +48,22 @@ def made_job(seed):
     return ("\n".join(lines) + rng.choice(["", "\n"])).encode()
 
 
-def same(printed, expected):
-    """Of several offending keys any may be named: the words before the key decide."""
-    if expected.startswith(("error refused", "error insufficient", "error overflow")):
-        return printed.startswith("error ") and printed.split()[2:3] == expected.split()[2:3]
-    return printed == expected
-
-
 def main(program):
     cases = [(p.name, p.read_bytes()) for p in sorted((ROOT / "examples").glob("*.job"))]
     cases += [(f"seed {seed}", made_job(seed)) for seed in range(300)]
-    failed = 0
+    failed, started = 0, time.monotonic()
     for name, job in cases:
         run = subprocess.run([program, "local"], input=job, capture_output=True, timeout=60)
-        printed, status = local(job)
-        good = run.returncode == status and same(run.stdout.decode(), printed)
-        stored = ROOT / "examples" / name.replace(".job", ".out")
+        allowed, status = local(job)
+        printed = run.stdout.decode()
+        good = run.returncode == status and printed in allowed
         if name.endswith(".job"):
+            stored = ROOT / "examples" / name.replace(".job", ".out")
             good = good and stored.read_text() == printed
         if not good:
             failed += 1
-            print(f"{name}: status {run.returncode}, wanted {status}\n{run.stdout.decode()}wanted\n{printed}")
+            print(f"{name}: status {run.returncode}, wanted {status}\n{printed}wanted one of\n{''.join(allowed)}")
+    print(f"the comparison took {time.monotonic() - started:.0f} s")
     print(f"{len(cases) - failed} passed, {failed} failed")
     return 1 if failed else 0
 

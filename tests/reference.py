@@ -1,6 +1,7 @@
 #!/usr/bin/env python3
 """What `local` prints for a job, worked out independently of the program: dictionaries, whole replays and the
-rules of docs/FORMATS.md. Prints the report or the error line and ends with the status.
+rules of docs/FORMATS.md. Prints the report or the error line (of several offending keys the one that is touched
+first) and ends with the status.
 
     python3 tests/reference.py < JOB
 """
@@ -170,11 +171,12 @@ def choose(accounts, rounds):
 
 
 def local(text):
-    """The printed text and the status. Of several offending keys the first in order of first touch is named."""
+    """The texts of which one is printed, and the status. Where several keys of a body offend, any of them may be
+    named; else there is one text."""
     try:
         opens, blocks = parse(text)
     except Offence as offence:
-        return f"error job line {offence.args[0]}\n", 3
+        return [f"error job line {offence.args[0]}\n"], 3
     ops = [("commit", 0)] + [("update", k, (b, n)) for k, b, n in opens] + [("commit", 0)]
     out = [f"synced 0 {len(ops)}"]
     for place, (kind, content) in enumerate(blocks):
@@ -182,8 +184,7 @@ def local(text):
         if kind == "body":
             sums, found = settled(accounts, content)
             if found:
-                word, key = found[0]
-                return f"error {word} {place} {key_text(key)}\n", 9
+                return [f"error {word} {place} {key_text(key)}\n" for word, key in found], 9
             out.append(f"block {place} body")
         else:
             taken, verdicts = choose(accounts, content)
@@ -193,10 +194,10 @@ def local(text):
     for key, (balance, nonce) in sorted(replay(ops).items()):
         out.append(f"account {key_text(key)} {balance} {nonce}")
     out += [f"size {len(ops)}", f"root {root([spelling(op) for op in ops]).hex()}"]
-    return "\n".join(out) + "\n", 0
+    return ["\n".join(out) + "\n"], 0
 
 
 if __name__ == "__main__":
-    printed, status = local(sys.stdin.buffer.read())
-    sys.stdout.write(printed)
+    allowed, status = local(sys.stdin.buffer.read())
+    sys.stdout.write(allowed[0])
     sys.exit(status)
