@@ -1,6 +1,6 @@
 use Rattle.std.specs.Prelude.{◌≡◌, ℕ, List, ◌∷◌, ◌++◌, length, Option, Some, None}
 use Rattle.std.proofs.Common.{refl, sym, ◌∙◌}
-use Rattle.ledger_log.specs.Spelling.{commit_spelling, IsSoundCommit}
+use Rattle.ledger_log.specs.Spelling.{commit_spelling, Is32Bytes, IsSoundCommit}
 use Rattle.ledger_log.specs.Unique.{split_equal, commit_distinct}
 use Rattle.ledger_log.specs.declared.any.AnyOp.{AnyOp}
 use Rattle.ledger_log.specs.declared.any.AnyOp.TheVariants.{Update, Delete, CommitFloor}
@@ -31,15 +31,15 @@ any_commit metadata floor = CommitFloor metadata floor
 pub any_commit_has_floor : (metadata : Option (List ℕ)) (floor : ℕ) → any_floor (any_commit metadata floor) ≡ Some floor
 any_commit_has_floor metadata floor = refl
 
--- keys, values and metadata have 32 bytes, and a floor is a location
+-- keys, values and metadata are 32 bytes each, and a floor is a location
 abbrev pub IsSoundAny : AnyOp → Type 0
-IsSoundAny (Update key value) = (length key ≡ 32) × (length value ≡ 32)
-IsSoundAny (Delete key) = length key ≡ 32
+IsSoundAny (Update key value) = Is32Bytes key × Is32Bytes value
+IsSoundAny (Delete key) = Is32Bytes key
 IsSoundAny (CommitFloor metadata floor) = IsSoundCommit metadata floor
 
 -- operations with one spelling are one operation
 pub any_distinct : (x y : AnyOp) → IsSoundAny x → IsSoundAny y → any_spelling x ≡ any_spelling y → x ≡ y
-any_distinct (Update a b) (Update c d) p q e = let s = split_equal a c b d (p.0 ∙ sym q.0) (cc) in let l : a ≡ c = s.0 in let r : b ≡ d = s.1 in cc
+any_distinct (Update a b) (Update c d) p q e = let s = split_equal a c b d (p.0.0 ∙ sym q.0.0) (cc) in let l : a ≡ c = s.0 in let r : b ≡ d = s.1 in cc
 any_distinct (Update a b) (Delete c) p q e = absurd cc
 any_distinct (Update a b) (CommitFloor c d) p q e = absurd cc
 any_distinct (Delete a) (Update c d) p q e = absurd cc

@@ -1,6 +1,6 @@
 use Rattle.std.specs.Prelude.{◌≡◌, ℕ, List, ◌∷◌, length, Option, Some, None}
 use Rattle.std.proofs.Common.{refl}
-use Rattle.ledger_log.specs.Spelling.{commit_spelling, IsSoundCommit}
+use Rattle.ledger_log.specs.Spelling.{commit_spelling, Is32Bytes, IsSoundCommit}
 use Rattle.ledger_log.specs.Unique.{commit_distinct}
 use Rattle.ledger_log.specs.declared.keyless.KeylessOp.{KeylessOp}
 use Rattle.ledger_log.specs.declared.keyless.KeylessOp.TheVariants.{Append, Commit}
@@ -27,9 +27,9 @@ keyless_commit metadata floor = Commit metadata floor
 pub keyless_commit_has_floor : (metadata : Option (List ℕ)) (floor : ℕ) → keyless_floor (keyless_commit metadata floor) ≡ Some floor
 keyless_commit_has_floor metadata floor = refl
 
--- values and metadata have 32 bytes, and a floor is a location
+-- values and metadata are 32 bytes each, and a floor is a location
 abbrev pub IsSoundKeyless : KeylessOp → Type 0
-IsSoundKeyless (Append value) = length value ≡ 32
+IsSoundKeyless (Append value) = Is32Bytes value
 IsSoundKeyless (Commit metadata floor) = IsSoundCommit metadata floor
 
 -- operations with one spelling are one operation

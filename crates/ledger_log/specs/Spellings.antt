@@ -208,19 +208,19 @@ single_again make value rest q = rw (digest_again value rest q) refl
 commit_again : {A : Type 0} (make : Option (List ℕ) → ℕ → A) (metadata : Option (List ℕ)) (floor : ℕ) (rest : List ℕ) → IsSoundCommit metadata floor
     → commit_at make (commit_spelling metadata floor ++ rest) ≡ Ok (make metadata floor, rest)
 commit_again make None floor rest sound = rw (metadata_is, location_again floor rest sound.1) refl
-commit_again make (Some metadata) floor rest sound = ap (λ (x : List ℕ). commit_at make (1 ∷ x)) (append_assoc metadata (varint floor) rest) ∙ rw (metadata_is, digest_again metadata (varint floor ++ rest) sound.0, location_again floor rest sound.1) refl
+commit_again make (Some metadata) floor rest sound = ap (λ (x : List ℕ). commit_at make (1 ∷ x)) (append_assoc metadata (varint floor) rest) ∙ rw (metadata_is, digest_again metadata (varint floor ++ rest) sound.0.0, location_again floor rest sound.1) refl
 
 any_again : (op : AnyOp) (rest : List ℕ) → IsSoundAny op → any_at (any_spelling op ++ rest) ≡ Ok (op, rest)
-any_again (any.Update key value) rest sound = any_is ((0 ∷ key ++ value) ++ rest) ∙ pair_again any.Update key value rest sound.0 sound.1
-any_again (any.Delete key) rest sound = any_is ((1 ∷ key) ++ rest) ∙ single_again any.Delete key rest sound
+any_again (any.Update key value) rest sound = any_is ((0 ∷ key ++ value) ++ rest) ∙ pair_again any.Update key value rest sound.0.0 sound.1.0
+any_again (any.Delete key) rest sound = any_is ((1 ∷ key) ++ rest) ∙ single_again any.Delete key rest sound.0
 any_again (any.CommitFloor metadata floor) rest sound = any_is ((2 ∷ commit_spelling metadata floor) ++ rest) ∙ commit_again any.CommitFloor metadata floor rest sound
 
 immutable_again : (op : ImmutableOp) (rest : List ℕ) → IsSoundImmutable op → immutable_at (immutable_spelling op ++ rest) ≡ Ok (op, rest)
-immutable_again (immutable.Set key value) rest sound = immutable_is ((0 ∷ key ++ value) ++ rest) ∙ pair_again immutable.Set key value rest sound.0 sound.1
+immutable_again (immutable.Set key value) rest sound = immutable_is ((0 ∷ key ++ value) ++ rest) ∙ pair_again immutable.Set key value rest sound.0.0 sound.1.0
 immutable_again (immutable.Commit metadata floor) rest sound = immutable_is ((1 ∷ commit_spelling metadata floor) ++ rest) ∙ commit_again immutable.Commit metadata floor rest sound
 
 keyless_again : (op : KeylessOp) (rest : List ℕ) → IsSoundKeyless op → keyless_at (keyless_spelling op ++ rest) ≡ Ok (op, rest)
-keyless_again (keyless.Append value) rest sound = keyless_is ((0 ∷ value) ++ rest) ∙ single_again keyless.Append value rest sound
+keyless_again (keyless.Append value) rest sound = keyless_is ((0 ∷ value) ++ rest) ∙ single_again keyless.Append value rest sound.0
 keyless_again (keyless.Commit metadata floor) rest sound = keyless_is ((1 ∷ commit_spelling metadata floor) ++ rest) ∙ commit_again keyless.Commit metadata floor rest sound
 
 pub any_laws : SpellLaws any_at any_spelling IsSoundAny (λ _. Unit {0})

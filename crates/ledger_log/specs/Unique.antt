@@ -48,6 +48,6 @@ commit_distinct None None f g p q e = let same : f ≡ g = varint_distinct f g p
 commit_distinct None (Some n) f g p q e = absurd cc
 commit_distinct (Some m) None f g p q e = absurd cc
 commit_distinct (Some m) (Some n) f g p q e =
-    let s = split_equal m n (varint f) (varint g) (p.0 ∙ sym q.0) cc in
+    let s = split_equal m n (varint f) (varint g) (p.0.0 ∙ sym q.0.0) cc in
     let l : m ≡ n = s.0 in
     (ap Some l, varint_distinct f g p.1 q.1 s.1)

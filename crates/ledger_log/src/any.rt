@@ -2,7 +2,7 @@
 ghost use Rattle.std.specs.Prelude.{◌≡◌, codes};
 ghost use Rattle.ledger_log.specs.declared.any.AnyOp.{AnyOp};
 
-use crate::bytes::{put, put_commit};
+use crate::bytes::{put, put_commit, put_value};
 use crate::{Family, Key, KeyedFamily, Value};
 use ledger_merkle::{Leaf, Location};
 
@@ -28,12 +28,12 @@ impl Leaf for AnyOp {
         match self {
             AnyOp::Update(key, value) => {
                 let tag_end = put(out, 0, &[0]);
-                let key_end = put(out, tag_end, key);
-                put(out, key_end, value)
+                let key_end = put_value(out, tag_end, *key);
+                put_value(out, key_end, *value)
             }
             AnyOp::Delete(key) => {
                 let tag_end = put(out, 0, &[1]);
-                put(out, tag_end, key)
+                put_value(out, tag_end, *key)
             }
             AnyOp::CommitFloor(metadata, floor) => {
                 let tag_end = put(out, 0, &[2]);

@@ -1,7 +1,7 @@
 //! Writing the leaf bytes of operations.
 ghost use Rattle.std.specs.Prelude.{◌≡◌, ℕ, ◌+◌, ◌≤◌, ◌++◌, length, take};
 ghost use Rattle.ledger_codec.specs.Numbers.{varint};
-ghost use Rattle.ledger_log.specs.Spelling.{commit_spelling, IsSoundCommit};
+ghost use Rattle.ledger_log.specs.Spelling.{commit_spelling, Is32Bytes, IsSoundCommit};
 
 use crate::Value;
 use ledger_merkle::Location;
@@ -15,6 +15,16 @@ pub(crate) fn put(out: &mut [u8; 96], at: usize, bytes: &[u8]) -> usize
     let end = at + bytes.len();
     out[at..end].copy_from_slice(bytes);
     end
+}
+
+/// Writes 32 bytes from this place on, and gives the place behind them.
+pub(crate) fn put_value(out: &mut [u8; 96], at: usize, value: Value) -> usize
+    requires { at ≤ 64 }
+    ensures end { result ≡ at + length value }
+    ensures sound { Is32Bytes value }
+    ensures bytes { take result out.new ≡ take at out.old ++ value }
+{
+    put(out, at, &value)
 }
 
 /// Writes the number from this place on, and gives the place behind it.
@@ -55,7 +65,7 @@ pub(crate) fn put_commit(
         }
         Some(metadata) => {
             let flag_end = put(out, at, &[1]);
-            let metadata_end = put(out, flag_end, metadata);
+            let metadata_end = put_value(out, flag_end, *metadata);
             put_varint(out, metadata_end, floor.get())
         }
     }

@@ -2,7 +2,7 @@
 ghost use Rattle.std.specs.Prelude.{◌≡◌, codes};
 ghost use Rattle.ledger_log.specs.declared.immutable.ImmutableOp.{ImmutableOp};
 
-use crate::bytes::{put, put_commit};
+use crate::bytes::{put, put_commit, put_value};
 use crate::{CompactFamily, Family, Key, KeyedFamily, Value};
 use ledger_merkle::{Leaf, Location};
 
@@ -26,8 +26,8 @@ impl Leaf for ImmutableOp {
         match self {
             ImmutableOp::Set(key, value) => {
                 let tag_end = put(out, 0, &[0]);
-                let key_end = put(out, tag_end, key);
-                put(out, key_end, value)
+                let key_end = put_value(out, tag_end, *key);
+                put_value(out, key_end, *value)
             }
             ImmutableOp::Commit(metadata, floor) => {
                 let tag_end = put(out, 0, &[1]);

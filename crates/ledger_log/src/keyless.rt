@@ -2,7 +2,7 @@
 ghost use Rattle.std.specs.Prelude.{◌≡◌, codes};
 ghost use Rattle.ledger_log.specs.declared.keyless.KeylessOp.{KeylessOp};
 
-use crate::bytes::{put, put_commit};
+use crate::bytes::{put, put_commit, put_value};
 use crate::{CompactFamily, Family, Key, Value};
 use ledger_merkle::{Leaf, Location};
 
@@ -26,7 +26,7 @@ impl Leaf for KeylessOp {
         match self {
             KeylessOp::Append(value) => {
                 let tag_end = put(out, 0, &[0]);
-                put(out, tag_end, value)
+                put_value(out, tag_end, *value)
             }
             KeylessOp::Commit(metadata, floor) => {
                 let tag_end = put(out, 0, &[1]);

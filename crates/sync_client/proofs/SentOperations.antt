@@ -17,19 +17,19 @@ use Rattle.sync_client.proofs.ServedAnswers.{varint_short}
 
 commit_short : (metadata : Option (List ℕ)) (floor : ℕ) → IsSoundCommit metadata floor → length (commit_spelling metadata floor) ≤ 43
 commit_short None floor s = omega (arith, varint_short floor)
-commit_short (Some metadata) floor s = omega (arith, length-append metadata (varint floor), varint_short floor, s.0)
+commit_short (Some metadata) floor s = omega (arith, length-append metadata (varint floor), varint_short floor, s.0.0)
 
 any_short : (op : AnyOp) → IsSoundAny op → length (any_spelling op) ≤ 96
-any_short (any.Update key value) s = omega (arith, length-append key value, s.0, s.1)
-any_short (any.Delete key) s = omega (arith, s)
+any_short (any.Update key value) s = omega (arith, length-append key value, s.0.0, s.1.0)
+any_short (any.Delete key) s = omega (arith, s.0)
 any_short (any.CommitFloor metadata floor) s = omega (arith, commit_short metadata floor s)
 
 immutable_short : (op : ImmutableOp) → IsSoundImmutable op → length (immutable_spelling op) ≤ 96
-immutable_short (immutable.Set key value) s = omega (arith, length-append key value, s.0, s.1)
+immutable_short (immutable.Set key value) s = omega (arith, length-append key value, s.0.0, s.1.0)
 immutable_short (immutable.Commit metadata floor) s = omega (arith, commit_short metadata floor s)
 
 keyless_short : (op : KeylessOp) → IsSoundKeyless op → length (keyless_spelling op) ≤ 96
-keyless_short (keyless.Append value) s = omega (arith, s)
+keyless_short (keyless.Append value) s = omega (arith, s.0)
 keyless_short (keyless.Commit metadata floor) s = omega (arith, commit_short metadata floor s)
 
 pub any_sent : AreSent any_at any_spelling any_spelling IsSoundAny
