@@ -2,8 +2,8 @@
 ghost use Rattle.std.specs.Prelude.{◌≡◌, ℕ, ◌+◌, ◌-◌, ◌/◌, ◌%◌, ◌^◌, ◌<◌, ◌≤◌, ◌++◌, ◌∷◌, [], length, get_or, set, take, drop, reverse, count_ones, OnOk, OnErr, IfOk};
 ghost use Rattle.ledger_merkle.specs.Levels.{nodes};
 
-use crate::Hasher;
 use crate::hashed::hash_node;
+use crate::{Hasher, Retained};
 use ledger_codec::{Digest, OutOfMemory};
 use std::alloc::Global;
 use std::marker::Model;
@@ -11,7 +11,7 @@ use std::marker::Model;
 /// Nodes of one height, from left to right.
 #[derive(Drop)]
 pub struct Level {
-    nodes: Vec<Digest>,
+    nodes: Retained<Digest>,
 }
 
 impl Model for Level {
@@ -19,7 +19,7 @@ impl Model for Level {
 
     ghost Value = { List (List ℕ) };
 
-    ghost view = { λ l. l.nodes.items };
+    ghost view = { λ l. l.nodes };
 }
 
 impl Level {
@@ -28,7 +28,7 @@ impl Level {
         ensures { result ≡ [] }
     {
         Level {
-            nodes: Vec::new(alloc),
+            nodes: Retained::from_vec(alloc, Vec::new(alloc)),
         }
     }
 
@@ -44,7 +44,7 @@ impl Level {
         requires { index < length self.now }
         ensures { result ≡ get_or self.now index [] }
     {
-        self.nodes[index]
+        self.nodes.as_slice()[index]
     }
 
     /// One node more.
@@ -52,8 +52,7 @@ impl Level {
         ensures ok { OnOk result (self.new ≡ self.old ++ node ∷ []) }
         ensures err { OnErr result (self.new ≡ self.old) }
     {
-        self.nodes.push(node)?;
-        Ok(())
+        self.nodes.push(node)
     }
 
     /// The first `len` nodes alone.
@@ -67,16 +66,15 @@ impl Level {
     pub fn skip(&mut self, count: usize)
         ensures { self.new ≡ drop count self.old }
     {
-        let count = count.min(self.nodes.len());
-        self.nodes.drain(..count);
+        self.nodes.skip(count);
     }
 
     /// Equal nodes.
-    pub fn copy(&self, alloc: Global) -> Result<Level, OutOfMemory>
+    pub fn copy(&self) -> Result<Level, OutOfMemory>
         ensures { IfOk result (λ l. l ≡ self.now) }
     {
         Ok(Level {
-            nodes: Vec::from_slice(alloc, self.nodes.as_slice())?,
+            nodes: self.nodes.copy()?,
         })
     }
 }

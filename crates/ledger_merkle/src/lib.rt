@@ -24,6 +24,7 @@ mod peaks;
 mod plain;
 mod proof;
 mod range;
+mod retained;
 mod sha;
 mod spelling;
 #[cfg(test)]
@@ -39,5 +40,6 @@ pub use peaks::Peaks;
 pub use plain::plain_digests;
 pub use proof::{Part, Proof};
 pub use range::{RangeFault, check_range};
+pub use retained::Retained;
 pub use sha::Sha256Hasher;
 pub use toy::Toy;

@@ -4,7 +4,7 @@ ghost use Rattle.std.specs.Prelude.{◌≡◌, ◌≢◌, ℕ, ◌+◌, ◌-◌,
 ghost use Rattle.ledger_merkle.specs.Tree.{root};
 ghost use Rattle.ledger_merkle.specs.Range.{RangeOk, is_outside};
 ghost use Rattle.ledger_merkle.specs.Leaves.{ListView, leaves_from, list_size, list_root, peaks_at, root_at};
-ghost use Rattle.ledger_merkle.specs.Levels.{nodes, tree, outside_of, proof_digests};
+ghost use Rattle.ledger_merkle.specs.Levels.{nodes, tree, outside_of, proof_digests, KeptFrom};
 
 use crate::hashed::hash_item;
 use crate::level::{Level, add, cut_levels, length_of, skip_levels};
@@ -289,6 +289,7 @@ impl<H: Hasher> MerkleList<H> {
         ensures ok { OnOk result (self.new ≡ record { front = loc; pinned = peaks_at H.digest self.old loc; leaves = drop (loc - self.old.front) self.old.leaves }) }
         ensures size { list_size self.new ≡ list_size self.old }
         ensures root { list_root H.digest self.new ≡ list_root H.digest self.old }
+        ensures kept { OnOk result (KeptFrom H.digest loc self.old self.new) }
         ensures err { OnErr result (self.new ≡ self.old) }
     {
         let pinned = self.pinned(loc)?;
@@ -304,7 +305,7 @@ impl<H: Hasher> MerkleList<H> {
     {
         let mut levels = Vec::new(self.alloc);
         for level in &self.levels {
-            levels.push(level.copy(self.alloc)?)?;
+            levels.push(level.copy()?)?;
         }
         Ok(MerkleList {
             alloc: self.alloc,
