@@ -18,7 +18,7 @@ module _ {Op : Type 0} where
   last_floor-append f (x ∷ z ∷ zs) y ys = last_floor-append f (z ∷ zs) y ys
 
   -- a batch's floor is that of its last operation
-  last_of_batch : (f : Op → Option ℕ) (ys : List Op) (n : ℕ) → batch_floor f ys ≡ Some n → last_floor f ys ≡ Some n
+  pub last_of_batch : (f : Op → Option ℕ) (ys : List Op) (n : ℕ) → batch_floor f ys ≡ Some n → last_floor f ys ≡ Some n
   last_of_batch f [] n h = h
   last_of_batch f (y ∷ []) n h = h
   last_of_batch f (y ∷ z ∷ zs) n h = last_of_batch f (z ∷ zs) n (later (is_some (f y)) (batch_floor f (z ∷ zs)) n h) where
@@ -29,6 +29,10 @@ module _ {Op : Type 0} where
   pub last_floor-batch : (f : Op → Option ℕ) (xs ys : List Op) (n : ℕ) → batch_floor f ys ≡ Some n → last_floor f (xs ++ ys) ≡ Some n
   last_floor-batch f xs [] n h = cc
   last_floor-batch f xs (y ∷ ys) n h = last_floor-append f xs y ys ∙ last_of_batch f (y ∷ ys) n h
+
+  pub last_floor-batches : (f : Op → Option ℕ) (xs ys : List Op) (n : ℕ) → last_floor f ys ≡ Some n → last_floor f (xs ++ ys) ≡ Some n
+  last_floor-batches f xs [] n h = cc
+  last_floor-batches f xs (y ∷ ys) n h = last_floor-append f xs y ys ∙ h
 
   -- the peaks of a longer log
   pub grow_ops : (hash : List ℕ → List ℕ) (spelling : Op → List ℕ) (n : ℕ) (ps : List (List ℕ)) (xs ys : List Op) →

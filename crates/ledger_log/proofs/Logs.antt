@@ -1,11 +1,12 @@
 use Rattle.std.proofs.Common.{◌≡◌, ℕ, zero, suc, ◌+◌, ◌-◌, ◌≤◌, List, [], ◌∷◌, ◌++◌, length, take, drop, map, refl, sym, ap, ◌∙◌, arith}
-use Rattle.std.proofs.lemmas.List.{length-map, length-drop, length-take-le, map-append, take-append-drop}
+use Rattle.std.proofs.lemmas.List.{drop-drop, length-map, length-drop, length-take-le, map-append, take-append-drop}
 use Rattle.ledger_merkle.specs.Tree.{leaf, grow, root}
 use Rattle.ledger_merkle.specs.Leaves.{ListView, leaves_from, pushed, list_size, list_root, peaks_at, root_at}
 use Rattle.ledger_merkle.proofs.Levels.{root_is_part, pushed_leaves, length-leaves_from}
 use Rattle.ledger_merkle.proofs.Growing.{grow-append}
 use Rattle.ledger_merkle.proofs.Cut.{leaves_from-append}
-use Rattle.ledger_log.specs.View.{LogView, log_size, log_root, log_list, log_peaks_at, log_root_at, log_range}
+use Rattle.ledger_merkle.specs.Levels.{without, KeptFrom, proof_digests}
+use Rattle.ledger_log.specs.View.{LogView, log_size, log_root, log_list, log_peaks_at, log_root_at, log_range, KeptAbove}
 
 take_leaves : (hash : List ℕ → List ℕ) (c n : ℕ) (xs : List (List ℕ)) → take c (leaves_from hash n xs) ≡ leaves_from hash n (take c xs)
 take_leaves hash zero n xs = refl
@@ -94,3 +95,45 @@ module _ {Op : Type 0} (hash : List ℕ → List ℕ) (spelling : Op → List �
       ∙ (sym (grow-append hash log.front log.pinned first rest)
       ∙ (ap (grow hash log.front log.pinned) (sym (map-append spelling (take c log.ops) (drop c log.ops))) ∙ ap (λ z. grow hash log.front log.pinned (map spelling z)) (take-append-drop c log.ops))) in
       ap (λ k. root hash k (grow hash loc (log_peaks_at hash spelling log loc) rest)) size ∙ ap (root hash (log_size log)) peaks
+
+module _ {Op : Type 0} (hash : List ℕ → List ℕ) (spelling : Op → List ℕ) (log : LogView Op) (loc : ℕ) (least : log.front ≤ loc)
+    (v new : ListView) (same : v ≡ log_list hash spelling log) (is : new ≡ without hash loc v) (left : List Op) (rest : left ≡ drop (loc - log.front) log.ops) where
+  abbrev later : LogView Op
+  later = record { front = new.front; pinned = new.pinned; ops = left }
+
+  new_front : new.front ≡ loc
+  new_front = ap (λ (x : ListView). x.front) is
+
+  -- the leaves of the log that is left
+  later_list : log_list hash spelling later ≡ new
+  later_list =
+      let here : drop (loc - v.front) v.leaves ≡ leaves_from hash loc (map spelling (drop (loc - log.front) log.ops)) =
+      ap (λ (x : ListView). drop (loc - x.front) x.leaves) same ∙ leaves_below hash spelling log loc least in
+      let leaves : new.leaves ≡ leaves_from hash new.front (map spelling left) =
+      ap (λ (x : ListView). x.leaves) is ∙ (here ∙ (ap (λ k. leaves_from hash k (map spelling (drop (loc - log.front) log.ops))) (sym new_front) ∙ ap (λ z. leaves_from hash new.front (map spelling z)) (sym rest))) in
+      ap (λ z. record { front = new.front; pinned = new.pinned; leaves = z }) (sym leaves)
+
+  -- what it answers from its front on is what the log answered
+  pub kept_above : KeptFrom hash loc v new → KeptAbove hash spelling log later
+  kept_above k = record {
+    nodes = λ at l m.
+        sym (peaks_of_log hash spelling later at)
+        ∙ (ap (λ x. peaks_at hash x at) later_list
+        ∙ (k.peaks at (within at l) (most at m)
+        ∙ (ap (λ x. peaks_at hash x at) same ∙ peaks_of_log hash spelling log at)));
+    ranges = λ start count l.
+        ap (λ z. take count (drop (start - new.front) z)) rest
+        ∙ ap (take count) (ap (λ i. drop (start - i) (drop (loc - log.front) log.ops)) new_front ∙ (drop-drop (start - loc) (loc - log.front) log.ops ∙ ap (λ i. drop i log.ops) (sum start (within start l))));
+    proofs = λ n start count l w m.
+        ap (λ x. proof_digests hash x n start count) later_list
+        ∙ (k.proofs n start count (within start l) w (most n m)
+        ∙ ap (λ x. proof_digests hash x n start count) same);
+  } where
+    within : (at : ℕ) → new.front ≤ at → loc ≤ at
+    within at l = omega (arith, new_front)
+
+    most : (at : ℕ) → at ≤ log_size log → at ≤ list_size v
+    most at m = omega (arith, ap list_size same, length-log_list hash spelling log)
+
+    sum : (start : ℕ) → loc ≤ start → (loc - log.front) + (start - loc) ≡ start - log.front
+    sum start l = omega arith

@@ -32,6 +32,10 @@ module _ {Op : Type 0} where
   abbrev pub append_refusal : (Op → Option ℕ) → LogView Op → List Op → Option LogFault
   append_refusal floor_of log ops = batch_refusal (log_size log) (log_floor floor_of log) (length ops) (batch_floor floor_of ops)
 
+  -- why it takes no such batches, one behind the other, as one
+  abbrev pub batches_refusal : (Op → Option ℕ) → LogView Op → List Op → Option LogFault
+  batches_refusal floor_of log ops = batch_refusal (log_size log) (log_floor floor_of log) (length ops) (last_floor floor_of ops)
+
   -- why there are no operations of this log from `start` on in the tree of the first `count`, without want of memory
   abbrev pub range_refusal : LogView Op → ℕ → ℕ → Option LogFault
   range_refusal log count start =

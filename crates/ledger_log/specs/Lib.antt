@@ -9,4 +9,5 @@ pub mod Index
 pub use Rattle.ledger_merkle.specs.Tree
 pub use Rattle.ledger_merkle.specs.Range
 pub use Rattle.ledger_merkle.specs.Leaves
+pub use Rattle.ledger_merkle.specs.Levels
 pub mod Spellings

@@ -1,8 +1,9 @@
-use Rattle.std.specs.Prelude.{ℕ, ◌+◌, ◌-◌, cond, max, List, [], ◌∷◌, length, map, take, drop, Option, Some, None, is_some}
+use Rattle.std.specs.Prelude.{◌≡◌, ◌≤◌, ℕ, ◌+◌, ◌-◌, cond, max, List, [], ◌∷◌, length, map, take, drop, Option, Some, None, is_some}
 use Rattle.std.specs.List.{last_or, filter_map}
 use Rattle.std.specs.Str.{bytes_eq}
 use Rattle.ledger_merkle.specs.Tree.{grow, root}
 use Rattle.ledger_merkle.specs.Leaves.{ListView, leaves_from}
+use Rattle.ledger_merkle.specs.Levels.{proof_digests}
 
 -- a log: its first retained place, the peaks there, and the operations from there on
 pub record LogView (Op : Type 0) : Type 0 where
@@ -88,3 +89,10 @@ module _ {Op : Type 0} where
   abbrev pub pruned : (List ℕ → List ℕ) → (Op → List ℕ) → LogView Op → ℕ → LogView Op
   pruned hash spelling log loc =
       record { front = max log.front loc; pinned = log_peaks_at hash spelling log (max log.front loc); ops = drop (max log.front loc - log.front) log.ops }
+
+-- from its new front on a log has the pinned nodes, the operations of each range and their proofs that it had before
+pub record KeptAbove {Op : Type 0} (hash : List ℕ → List ℕ) (spelling : Op → List ℕ) (before now : LogView Op) : Type 0 where
+  pub nodes : (at : ℕ) → now.front ≤ at → at ≤ log_size before → log_peaks_at hash spelling now at ≡ log_peaks_at hash spelling before at
+  pub ranges : (start count : ℕ) → now.front ≤ start → log_range now start count ≡ log_range before start count
+  pub proofs : (n start count : ℕ) → now.front ≤ start → start + count ≤ n → n ≤ log_size before →
+      proof_digests hash (log_list hash spelling now) n start count ≡ proof_digests hash (log_list hash spelling before) n start count

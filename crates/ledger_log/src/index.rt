@@ -101,6 +101,13 @@ pub(crate) fn forget<F: Family>(index: &mut Index, ops: &[F::Op], front: u64)
     }
 }
 
+/// Takes out the entries of these operations that say that there is no operation yet.
+pub(crate) fn forget_unwritten<F: Family>(index: &mut Index, ops: &[F::Op])
+    ensures { (k : Items ℕ) → end_at index.new k ≡ end_at index.old k }
+{
+    forget::<F>(index, ops, 0);
+}
+
 /// Takes out the entry of the key, if there is one and it is stale.
 fn forget_key(index: &mut Index, key: Option<Key>, front: u64)
     ensures { (k : Items ℕ) → retained front (end_at index.new k) ≡ retained front (end_at index.old k) }

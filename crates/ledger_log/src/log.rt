@@ -1,16 +1,17 @@
 //! The log: its Merkle list, the operations that it retains, and an index of their keys.
-ghost use Rattle.std.specs.Prelude.{◌≡◌, ◌+◌, ◌-◌, ◌<◌, ◌≤◌, ◌^◌, ◌⊎◌, ◌++◌, ◌∷◌, [], None, List as Items, length, map, min, Some, MatchOption, IsOkUnless, IfOk, OnOk, OnErr, IfSome, slice_get, take, drop, count_ones, IsOk};
+ghost use Rattle.std.specs.Prelude.{◌≡◌, ℕ, All, ◌+◌, ◌-◌, ◌<◌, ◌≤◌, ◌^◌, ◌⊎◌, ◌++◌, ◌∷◌, [], None, List as Items, length, map, min, Some, MatchOption, IsOkUnless, IfOk, OnOk, OnErr, IfSome, slice_get, take, drop, count_ones, IsOk};
 ghost use Rattle.std.specs.Int.NonZero.{non_zero_u64_get};
 ghost use Rattle.ledger_merkle.specs.Range.{RangeOk};
 ghost use Rattle.ledger_merkle.specs.Leaves.{ListView, leaves_from, list_size};
 ghost use Rattle.ledger_merkle.specs.Levels.{proof_digests};
-ghost use Rattle.ledger_log.specs.View.{LogView, log_size, log_root, log_list, log_range, log_peaks_at, log_root_at, log_floor, pruned, last_floor, batch_floor, value_at};
-ghost use Rattle.ledger_log.specs.Faults.{parts_refusal, ops_refusal, append_refusal, range_refusal, prune_refusal};
+ghost use Rattle.ledger_log.specs.View.{LogView, log_size, log_root, log_list, log_range, log_peaks_at, log_root_at, log_floor, pruned, last_floor, batch_floor, value_at, key_written, KeptAbove};
+ghost use Rattle.ledger_log.specs.Index.{HasEntry, end_at};
+ghost use Rattle.ledger_log.specs.Faults.{parts_refusal, ops_refusal, append_refusal, batches_refusal, range_refusal, prune_refusal};
 
-use crate::index::{Index, copy_of, forget, index_of, look_up, make_room, note};
+use crate::index::{Index, copy_of, forget, forget_unwritten, index_of, look_up, make_room, note};
 use crate::{Family, Key, KeyedFamily, LogFault, Value};
 use ledger_codec::{Digest, OutOfMemory};
-use ledger_merkle::{Hasher, Leaf, Location, MAX_LEAVES, MerkleList, Proof};
+use ledger_merkle::{Hasher, Leaf, Location, MAX_LEAVES, MerkleList, Proof, Retained};
 use std::alloc::Global;
 use std::marker::{Model, PhantomData};
 use std::num::NonZeroU64;
@@ -21,7 +22,7 @@ use std::num::NonZeroU64;
 pub struct Log<F: Family, H: Hasher> {
     alloc: Global,
     list: MerkleList<H>,
-    ops: Vec<F::Op>,
+    ops: Retained<F::Op>,
     index: Index,
     floor: Location,
     family: PhantomData<F>,
@@ -35,9 +36,9 @@ impl<F: Family, H: Hasher> Model for Log<F, H> {
 
     ghost Value = { LogView F.Op };
 
-    ghost view = { λ l. record { front = l.list.front; pinned = l.list.pinned; ops = l.ops.items } };
+    ghost view = { λ l. record { front = l.list.front; pinned = l.list.pinned; ops = l.ops } };
 
-    ghost invariant = { λ l. (length l.list.pinned ≡ count_ones l.list.front) × (l.list.front + length l.ops.items ≤ 2 ^ 62) × (length l.list.leaves ≡ length l.ops.items) × (l.list.leaves ≡ leaves_from H.digest l.list.front (map F.Op.spelling l.ops.items)) × (last_floor F.floor_of l.ops.items ≡ Some l.floor) × (l.list.front ≤ l.floor) × (l.floor < l.list.front + length l.ops.items) × IsIndex F.write_of l.index l.list.front l.ops.items };
+    ghost invariant = { λ l. (length l.list.pinned ≡ count_ones l.list.front) × (l.list.front + length l.ops ≤ 2 ^ 62) × (length l.list.leaves ≡ length l.ops) × (l.list.leaves ≡ leaves_from H.digest l.list.front (map F.Op.spelling l.ops)) × (last_floor F.floor_of l.ops ≡ Some l.floor) × (l.list.front ≤ l.floor) × (l.floor < l.list.front + length l.ops) × IsIndex F.write_of l.index l.list.front l.ops };
 }
 
 impl<F: Family, H: Hasher> Log<F, H> {
@@ -69,6 +70,7 @@ impl<F: Family, H: Hasher> Log<F, H> {
         };
         let floor = floor_behind::<F>(start, ops.as_slice())?;
         let list = grown(list, ops.as_slice())?;
+        let ops = Retained::from_vec(alloc, ops);
         Ok(Log::with_floor(alloc, list, ops, floor)?)
     }
 
@@ -84,6 +86,7 @@ impl<F: Family, H: Hasher> Log<F, H> {
         ensures ok { IfOk result (λ log. log ≡ record { front = list.front; pinned = list.pinned; ops = ops.items }) }
     {
         let floor = floor_behind::<F>(list.front(), ops.as_slice())?;
+        let ops = Retained::from_vec(alloc, ops);
         Ok(Log::with_floor(alloc, list, ops, floor)?)
     }
 
@@ -91,15 +94,15 @@ impl<F: Family, H: Hasher> Log<F, H> {
     fn with_floor(
         alloc: Global,
         list: MerkleList<H>,
-        ops: Vec<F::Op>,
+        ops: Retained<F::Op>,
         floor: Location,
     ) -> Result<Log<F, H>, OutOfMemory>
-        requires leaves { list.leaves ≡ leaves_from H.digest list.front (map F.Op.spelling ops.items) }
-        requires floor { last_floor F.floor_of ops.items ≡ Some floor }
+        requires leaves { list.leaves ≡ leaves_from H.digest list.front (map F.Op.spelling ops) }
+        requires floor { last_floor F.floor_of ops ≡ Some floor }
         requires least { list.front ≤ floor }
-        requires most { floor < list.front + length ops.items }
-        requires room { list.front + length ops.items ≤ 2 ^ 62 }
-        ensures { IfOk result (λ log. log ≡ record { front = list.front; pinned = list.pinned; ops = ops.items }) }
+        requires most { floor < list.front + length ops }
+        requires room { list.front + length ops ≤ 2 ^ 62 }
+        ensures { IfOk result (λ log. log ≡ record { front = list.front; pinned = list.pinned; ops = ops }) }
     {
         let index = index_of::<F>(alloc, ops.as_slice(), list.front().get())?;
         Ok(Log {
@@ -168,7 +171,7 @@ impl<F: Family, H: Hasher> Log<F, H> {
         ensures { MatchOption result ((loc < self.now.front) ⊎ (log_size self.now ≤ loc)) (λ op. (self.now.front ≤ loc) × (slice_get self.now.ops (loc - self.now.front) ≡ Some op.now)) }
     {
         let place = loc.get().checked_sub(self.list.front().get())?;
-        self.ops.get(place as usize)
+        self.ops.as_slice().get(place as usize)
     }
 
     /// Appends a batch: some operations, and behind them its one commit. Refused, in this order, where the
@@ -179,7 +182,21 @@ impl<F: Family, H: Hasher> Log<F, H> {
         ensures ok { IfOk result (λ _. self.new ≡ record { front = self.old.front; pinned = self.old.pinned; ops = self.old.ops ++ ops.now }) }
         ensures err { OnErr result (self.new ≡ self.old) }
     {
-        let Some(floor) = floor_of_batch::<F>(ops) else {
+        let Some(_floor) = floor_of_batch::<F>(ops) else {
+            return Err(LogFault::NotABatch);
+        };
+        self.append_batches(ops)
+    }
+
+    /// Appends batches, one behind the other: all of them or none, in time linear in them. Refused as
+    /// `append_batch` refuses one batch of all these operations, with the commits before the last one allowed;
+    /// that each batch by itself would be taken is for the caller to test.
+    pub fn append_batches(&mut self, ops: &[F::Op]) -> Result<(), LogFault>
+        ensures refusal { MatchOption (batches_refusal F.floor_of self.old ops.now) (IsOkUnless result LogFault.OutOfMemory) (λ fault. result ≡ Err fault) }
+        ensures ok { IfOk result (λ _. self.new ≡ record { front = self.old.front; pinned = self.old.pinned; ops = self.old.ops ++ ops.now }) }
+        ensures err { OnErr result (self.new ≡ self.old) }
+    {
+        let Some(floor) = floor_of_last::<F>(ops) else {
             return Err(LogFault::NotABatch);
         };
         let current = self.floor;
@@ -197,8 +214,7 @@ impl<F: Family, H: Hasher> Log<F, H> {
         if size > MAX_LEAVES {
             return Err(LogFault::Full { size: old_size });
         }
-        make_room::<F>(&mut self.index, ops)?;
-        extend_both(&mut self.list, &mut self.ops, ops)?;
+        extend_all::<F, H>(&mut self.index, &mut self.list, &mut self.ops, ops)?;
         note::<F>(&mut self.index, ops, old_size.get());
         self.floor = floor;
         Ok(())
@@ -260,6 +276,7 @@ impl<F: Family, H: Hasher> Log<F, H> {
         ensures ok { IfOk result (λ _. self.new ≡ pruned H.digest F.Op.spelling self.old loc) }
         ensures size { log_size self.new ≡ log_size self.old }
         ensures root { log_root H.digest F.Op.spelling self.new ≡ log_root H.digest F.Op.spelling self.old }
+        ensures kept { OnOk result (KeptAbove H.digest F.Op.spelling self.old self.new) }
         ensures err { OnErr result (self.new ≡ self.old) }
     {
         let floor = self.floor();
@@ -277,13 +294,14 @@ impl<F: Family, H: Hasher> Log<F, H> {
         requires least { self.old.front ≤ loc }
         requires most { loc ≤ log_floor F.floor_of self.old }
         ensures ok { OnOk result (self.new ≡ record { front = loc; pinned = log_peaks_at H.digest F.Op.spelling self.old loc; ops = drop (loc - self.old.front) self.old.ops }) }
+        ensures kept { OnOk result (KeptAbove H.digest F.Op.spelling self.old self.new) }
         ensures err { OnErr result (self.new ≡ self.old) }
     {
         let front = self.list.front().get();
         self.list.prune(loc)?;
         let count = (loc.get() - front) as usize;
-        forget::<F>(&mut self.index, &self.ops[..count], loc.get());
-        drop_first(&mut self.ops, count);
+        forget::<F>(&mut self.index, &self.ops.as_slice()[..count], loc.get());
+        self.ops.skip(count);
         Ok(())
     }
 
@@ -295,7 +313,7 @@ impl<F: Family, H: Hasher> Log<F, H> {
         Ok(Log {
             alloc: self.alloc,
             list: self.list.copy()?,
-            ops: Vec::from_slice(self.alloc, self.ops.as_slice())?,
+            ops: self.ops.copy()?,
             index: copy_of(&self.index)?,
             floor: self.floor,
             family: PhantomData,
@@ -349,8 +367,7 @@ fn floor_behind<F: Family>(start: Location, ops: &[F::Op]) -> Result<Location, L
 
 /// The floor of the last operation, None where it isn't the one commit.
 fn floor_of_batch<F: Family>(ops: &[F::Op]) -> Option<Location>
-    ensures floor { result ≡ batch_floor F.floor_of ops.now }
-    ensures most { IfSome result (λ f. f ≤ 2 ^ 62) }
+    ensures { result ≡ batch_floor F.floor_of ops.now }
 {
     let (last, others) = ops.split_last()?;
     for op in others {
@@ -371,16 +388,58 @@ fn grown<H: Hasher, T: Leaf>(list: MerkleList<H>, items: &[T]) -> Result<MerkleL
     Ok(list)
 }
 
+/// Appends the operations and their leaves, and makes entries for their keys: all of it or, where memory is
+/// refused, nothing. No entry is left behind.
+fn extend_all<F: Family, H: Hasher>(
+    index: &mut Index,
+    list: &mut MerkleList<H>,
+    ops: &mut Retained<F::Op>,
+    more: &[F::Op],
+) -> Result<(), OutOfMemory>
+    requires { list_size list.old + length more.now ≤ 2 ^ 62 }
+    ensures same { (k : Items ℕ) → end_at index.new k ≡ end_at index.old k }
+    ensures room { OnOk result (All (λ op. HasEntry index.new (key_written (F.write_of op))) more.now) }
+    ensures leaves { OnOk result (list.new ≡ record { front = list.old.front; pinned = list.old.pinned; leaves = list.old.leaves ++ leaves_from H.digest (list_size list.old) (map F.Op.spelling more.now) }) }
+    ensures ops { OnOk result (ops.new ≡ ops.old ++ more.now) }
+    ensures err { OnErr result ((list.new ≡ list.old) × (ops.new ≡ ops.old)) }
+{
+    match extend_with_room::<F, H>(index, list, ops, more) {
+        Ok(()) => Ok(()),
+        Err(fault) => {
+            forget_unwritten::<F>(index, more);
+            Err(fault)
+        }
+    }
+}
+
+/// The same, where a refusal may leave entries behind.
+fn extend_with_room<F: Family, H: Hasher>(
+    index: &mut Index,
+    list: &mut MerkleList<H>,
+    ops: &mut Retained<F::Op>,
+    more: &[F::Op],
+) -> Result<(), OutOfMemory>
+    requires { list_size list.old + length more.now ≤ 2 ^ 62 }
+    ensures same { (k : Items ℕ) → end_at index.new k ≡ end_at index.old k }
+    ensures room { OnOk result (All (λ op. HasEntry index.new (key_written (F.write_of op))) more.now) }
+    ensures leaves { OnOk result (list.new ≡ record { front = list.old.front; pinned = list.old.pinned; leaves = list.old.leaves ++ leaves_from H.digest (list_size list.old) (map F.Op.spelling more.now) }) }
+    ensures ops { OnOk result (ops.new ≡ ops.old ++ more.now) }
+    ensures err { OnErr result ((list.new ≡ list.old) × (ops.new ≡ ops.old)) }
+{
+    make_room::<F>(index, more)?;
+    extend_both(list, ops, more)
+}
+
 /// Appends the operations and their leaves: both or, where memory is refused, neither.
 fn extend_both<H: Hasher, T: Leaf + Copy>(
     list: &mut MerkleList<H>,
-    ops: &mut Vec<T>,
+    ops: &mut Retained<T>,
     more: &[T],
 ) -> Result<(), OutOfMemory>
     requires { list_size list.old + length more.now ≤ 2 ^ 62 }
     ensures leaves { OnOk result (list.new ≡ record { front = list.old.front; pinned = list.old.pinned; leaves = list.old.leaves ++ leaves_from H.digest (list_size list.old) (map T.spelling more.now) }) }
-    ensures ops { OnOk result (ops.new.items ≡ ops.old.items ++ more.now) }
-    ensures err { OnErr result ((list.new ≡ list.old) × (ops.new.items ≡ ops.old.items)) }
+    ensures ops { OnOk result (ops.new ≡ ops.old ++ more.now) }
+    ensures err { OnErr result ((list.new ≡ list.old) × (ops.new ≡ ops.old)) }
 {
     let count = ops.len();
     ops.extend_from_slice(more)?;
@@ -404,12 +463,4 @@ fn copy_range<T: Copy>(
     ensures { IfOk result (λ copy. copy.items ≡ take count (drop place items.now)) }
 {
     Ok(Vec::from_slice(alloc, &items[place..place + count])?)
-}
-
-/// Drops the first `count` items.
-fn drop_first<T: Copy>(items: &mut Vec<T>, count: usize)
-    requires { count ≤ length items.old.items }
-    ensures { items.new.items ≡ drop count items.old.items }
-{
-    items.drain(..count);
 }

@@ -2,11 +2,11 @@ use Rattle.std.proofs.Common.{◌≡◌, ℕ, ◌-◌, ◌<◌, ◌≤◌, List,
 use Rattle.std.proofs.lemmas.List.{length-drop}
 use Rattle.ledger_merkle.specs.Leaves.{ListView, leaves_from, list_size, peaks_at}
 use Rattle.ledger_merkle.proofs.Pruned.{pruned_count}
-use Rattle.ledger_log.specs.View.{LogView, log_list, log_peaks_at, log_floor, last_floor, floor_or_zero}
+use Rattle.ledger_log.specs.View.{LogView, KeptAbove, log_list, log_peaks_at, log_floor, last_floor, floor_or_zero}
 use Rattle.ledger_log.specs.Index.{IsIndex, end_at, retained}
 use Rattle.ledger_log.proofs.Floors.{last_floor-drop}
 use Rattle.ledger_log.proofs.Indexing.{index_pruned}
-use Rattle.ledger_log.proofs.Logs.{leaves_below, view_below}
+use Rattle.ledger_log.proofs.Logs.{leaves_below, view_below, kept_above}
 use Rattle.ledger_log.proofs.log.Log.drop_below.Goals as goal
 
 pub invariant_of-self-2 : goal.invariant_of-self-2
@@ -17,11 +17,11 @@ invariant_of-self-2 g c =
     let w = g.F.Family.write_of in
     let inv = c.self.invariant in
     let v = c.self.inside.list in
-    let ops = c.self.inside.ops.items in
+    let ops = c.self.inside.ops in
     let loc = c.args.loc in
     let n = loc - v.front in
     let new = c.prune.new.self in
-    let left = c.drop_first.new.items.items in
+    let left = c.skip.new.self in
     let log : LogView g.row.F-Op.Denot = record { front = v.front; pinned = v.pinned; ops = ops } in
     let least : v.front ≤ loc = subst (λ (x : LogView g.row.F-Op.Denot). x.front ≤ loc) (sym c.self.view_is) c.requires.least in
     let floor : log_floor f log ≡ c.self.inside.floor = ap floor_or_zero inv.4 in
@@ -33,7 +33,7 @@ invariant_of-self-2 g c =
     let front : new.front ≡ loc = ap (λ (x : ListView). x.front) is in
     let pinned : new.pinned ≡ peaks_at hash v loc = ap (λ (x : ListView). x.pinned) is in
     let leaves : new.leaves ≡ drop n v.leaves = ap (λ (x : ListView). x.leaves) is in
-    let rest : left ≡ drop n ops = c.drop_first.ensures ∙ ap (λ z. drop z ops) count in
+    let rest : left ≡ drop n ops = c.skip.ensures ∙ ap (λ z. drop z ops) count in
     let long : length left ≡ length ops - n = ap length rest ∙ length-drop n ops in
     let many : length new.leaves ≡ length v.leaves - n = ap length leaves ∙ length-drop n v.leaves in
     let below : new.leaves ≡ leaves_from hash loc (map spelling (drop n ops)) = leaves ∙ (ap (drop n) inv.3 ∙ leaves_below hash spelling log loc least) in
@@ -54,12 +54,29 @@ returns-clause-ok g c =
     let hash = g.H.Hasher.digest in
     let spelling = g.F.Op.Leaf.spelling in
     let v = c.self.inside.list in
-    let ops = c.self.inside.ops.items in
+    let ops = c.self.inside.ops in
     let loc = c.args.loc in
     let log : LogView g.row.F-Op.Denot = record { front = v.front; pinned = v.pinned; ops = ops } in
     let least : v.front ≤ loc = subst (λ (x : LogView g.row.F-Op.Denot). x.front ≤ loc) (sym c.self.view_is) c.requires.least in
     let count : c.get.result - c.get-front.result ≡ loc - v.front = omega arith in
-    let rest : c.drop_first.new.items.items ≡ drop (loc - v.front) ops = c.drop_first.ensures ∙ ap (λ z. drop z ops) count in
+    let rest : c.skip.new.self ≡ drop (loc - v.front) ops = c.skip.ensures ∙ ap (λ z. drop z ops) count in
     let same : v ≡ log_list hash spelling log = ap (λ z. record { front = v.front; pinned = v.pinned; leaves = z }) c.self.invariant.3 in
-    view_below hash spelling log loc v c.prune.new.self c.drop_first.new.items.items same c.in_ok-prune.ensures.ok rest
+    view_below hash spelling log loc v c.prune.new.self c.skip.new.self same c.in_ok-prune.ensures.ok rest
     ∙ ap (λ (x : LogView g.row.F-Op.Denot). record { front = loc; pinned = log_peaks_at hash spelling x loc; ops = drop (loc - x.front) x.ops }) c.self.view_is
+
+pub returns-clause-kept : goal.returns-clause-kept
+returns-clause-kept g c =
+    let hash = g.H.Hasher.digest in
+    let spelling = g.F.Op.Leaf.spelling in
+    let v = c.self.inside.list in
+    let ops = c.self.inside.ops in
+    let loc = c.args.loc in
+    let new = c.prune.new.self in
+    let left = c.skip.new.self in
+    let log : LogView g.row.F-Op.Denot = record { front = v.front; pinned = v.pinned; ops = ops } in
+    let least : v.front ≤ loc = subst (λ (x : LogView g.row.F-Op.Denot). x.front ≤ loc) (sym c.self.view_is) c.requires.least in
+    let count : c.get.result - c.get-front.result ≡ loc - v.front = omega arith in
+    let rest : left ≡ drop (loc - v.front) ops = c.skip.ensures ∙ ap (λ z. drop z ops) count in
+    let same : v ≡ log_list hash spelling log = ap (λ z. record { front = v.front; pinned = v.pinned; leaves = z }) c.self.invariant.3 in
+    subst (λ (x : LogView g.row.F-Op.Denot). KeptAbove hash spelling x (record { front = new.front; pinned = new.pinned; ops = left })) c.self.view_is
+    (kept_above hash spelling log loc least v new same c.in_ok-prune.ensures.ok left rest c.in_ok-prune.ensures.kept)
