@@ -1,60 +1,159 @@
--- What the last of some lines says, with one line more.
-use Rattle.std.proofs.Common.{◌≡◌, ℕ, ◌+◌, ◌<◌, Bool, true, false, ◌||◌, List, [], ◌∷◌, ◌++◌, length, take, get_or, Some, None, Option, unwrap_or, refl, sym, ◌∙◌, ap, append-nil, ◌-◌, suc, drop, drop-cons, arith}
-use Rattle.std.proofs.lemmas.List.{take_more}
+-- What the lines so far say, with one line more.
+use Rattle.std.proofs.Common.{◌≡◌, Bool, true, false, ◌||◌, List, [], ◌∷◌, ◌++◌, Some, None, Option, is_some, unwrap_or, refl, sym, ◌∙◌, ap, append-nil, append_assoc}
 use Rattle.std.proofs.lemmas.List.Elements.{filter_map-append}
 use Rattle.std.proofs.lemmas.List.Folds.{list_any-append}
 use Rattle.std.specs.List.{filter_map, last_or, list_any}
-use Rattle.ledger_job.specs.Jobs.{begins, section_after, has_limits, is_limits, limits_in, default_limits}
+use Rattle.ledger_job.specs.Gathered.{Seen, Stands, gathered_after, blocks_from, open_block, with_round}
+use Rattle.ledger_job.specs.Jobs.{begins, section_after, has_limits, is_limits, limits_in, open_in, fits, is_in_rounds, takes_payments, payments_of, rounds_of, blocks_of}
+use Rattle.ledger_job.specs.declared.block.Block.{Block}
+use Rattle.ledger_job.specs.declared.block.Block.TheVariants.{Body as BodyOf, Rounds as RoundsOf}
 use Rattle.ledger_job.specs.declared.line.Line.{Line}
+use Rattle.ledger_job.specs.declared.line.Line.TheVariants.{Skipped, Open, Limits, Body, Rounds, Round, Pay}
 use Rattle.ledger_job.specs.declared.line.JobLimits.{JobLimits}
-use Rattle.ledger_job.specs.declared.place.Section.TheVariants.{Opening}
+use Rattle.ledger_job.specs.declared.payment.Payment.{Payment}
+use Rattle.ledger_job.specs.declared.place.Section.{Section}
+use Rattle.ledger_job.specs.declared.place.Section.TheVariants.{Opening, InBody, InRounds, InRound}
+
+-- ---- sections, limits and accounts
 
 last_push : {B : Type 0} (o : Option B) (xs : List B) (x : B) → last_or o (xs ++ x ∷ []) ≡ Some x
 last_push o [] x = refl
 last_push o (y ∷ xs) x = last_push (Some y) xs x
 
--- what the last item of these gives under f, or else d
-abbrev pub last_given : {B : Type 0} → (Line → Option B) → B → List Line → B
-last_given f d lines = unwrap_or (last_or None (filter_map f lines)) d
+none_more : {B : Type 0} (f : Line → Option B) (lines : List Line) (line : Line) → filter_map f (line ∷ []) ≡ [] → filter_map f (lines ++ line ∷ []) ≡ filter_map f lines
+none_more f lines line e = filter_map-append f lines (line ∷ []) ∙ ap (λ l. filter_map f lines ++ l) e ∙ append-nil (filter_map f lines)
 
-last_given_by : {B : Type 0} (d : B) (xs : List B) (o : Option B) (ys : List B) → (o ≡ None → ys ≡ []) → ((x : B) → o ≡ Some x → ys ≡ x ∷ [])
-    → unwrap_or (last_or None (xs ++ ys)) d ≡ unwrap_or o (unwrap_or (last_or None xs) d)
-last_given_by d xs None ys n s = ap (λ z. unwrap_or (last_or None (xs ++ z)) d) (n refl) ∙ ap (λ z. unwrap_or (last_or None z) d) (append-nil xs)
-last_given_by d xs (Some x) ys n s = ap (λ z. unwrap_or (last_or None (xs ++ z)) d) (s x refl) ∙ ap (λ z. unwrap_or z d) (last_push None xs x)
+one_more : {B : Type 0} (f : Line → Option B) (lines : List Line) (line : Line) (x : B) → filter_map f (line ∷ []) ≡ x ∷ [] → filter_map f (lines ++ line ∷ []) ≡ filter_map f lines ++ x ∷ []
+one_more f lines line x e = filter_map-append f lines (line ∷ []) ∙ ap (λ l. filter_map f lines ++ l) e
 
-one_given : {B : Type 0} (f : Line → Option B) (line : Line) (o : Option B) → f line ≡ o → (o ≡ None → filter_map f (line ∷ []) ≡ []) × ((x : B) → o ≡ Some x → filter_map f (line ∷ []) ≡ x ∷ [])
-one_given f line None e = (λ h. rw e refl, λ x h. absurd cc)
-one_given f line (Some y) e = (λ h. absurd cc, λ x h. let same : y ≡ x = cc in rw (e, same) refl)
-
-pub last_given_more : {B : Type 0} (f : Line → Option B) (d : B) (lines : List Line) (line : Line) → last_given f d (lines ++ line ∷ []) ≡ unwrap_or (f line) (last_given f d lines)
-last_given_more f d lines line =
-    let one = one_given f line (f line) refl in
-    ap (λ z. unwrap_or (last_or None z) d) (filter_map-append f lines (line ∷ []))
-    ∙ last_given_by d (filter_map f lines) (f line) (filter_map f (line ∷ [])) one.0 one.1
-
-pub section_more : (lines : List Line) (line : Line) → section_after (lines ++ line ∷ []) ≡ unwrap_or (begins line) (section_after lines)
+section_kept : (lines : List Line) (line : Line) → filter_map begins (line ∷ []) ≡ [] → section_after lines ≡ section_after (lines ++ line ∷ [])
 unfolding section_after
-section_more lines line = last_given_more begins Opening lines line
+section_kept lines line e = sym (ap (λ l. unwrap_or (last_or None l) Opening) (none_more begins lines line e))
 
-limits_by : (a b : Bool) → (a || (b || false)) ≡ (a || b)
-limits_by true b = refl
-limits_by false true = refl
-limits_by false false = refl
+section_begun : (lines : List Line) (line : Line) (section : Section) → filter_map begins (line ∷ []) ≡ section ∷ [] → section ≡ section_after (lines ++ line ∷ [])
+unfolding section_after
+section_begun lines line section e = sym (ap (λ l. unwrap_or (last_or None l) Opening) (one_more begins lines line section e) ∙ ap (λ o. unwrap_or o Opening) (last_push None (filter_map begins lines) section))
 
-pub limits_more : (lines : List Line) (line : Line) → has_limits (lines ++ line ∷ []) ≡ (has_limits lines || is_limits line)
+or_nothing : (a b : Bool) → b ≡ false → (a || (b || false)) ≡ a
+or_nothing true b e = refl
+or_nothing false b e = rw e refl
+
+or_all : (a b : Bool) → b ≡ true → (a || (b || false)) ≡ true
+or_all true b e = refl
+or_all false b e = rw e refl
+
+limited_kept : (lines : List Line) (line : Line) → is_limits line ≡ false → has_limits lines ≡ has_limits (lines ++ line ∷ [])
 unfolding has_limits
-limits_more lines line = list_any-append is_limits lines (line ∷ []) ∙ limits_by (list_any is_limits lines) (is_limits line)
+limited_kept lines line e = sym (list_any-append is_limits lines (line ∷ []) ∙ or_nothing (list_any is_limits lines) (is_limits line) e)
 
-pub set_more : (lines : List Line) (i : ℕ) (e : Line) → i < length lines → last_given limits_in default_limits (take (i + 1) lines) ≡ unwrap_or (limits_in (get_or lines i e)) (last_given limits_in default_limits (take i lines))
-set_more lines i e h = ap (last_given limits_in default_limits) (take_more lines i e h) ∙ last_given_more limits_in default_limits (take i lines) (get_or lines i e)
+limited_set : (lines : List Line) (line : Line) → is_limits line ≡ true → true ≡ has_limits (lines ++ line ∷ [])
+unfolding has_limits
+limited_set lines line e = sym (list_any-append is_limits lines (line ∷ []) ∙ or_all (list_any is_limits lines) (is_limits line) e)
 
-pub set_step : (lines : List Line) (i : ℕ) (e : Line) (old new : JobLimits) → i < length lines → new ≡ unwrap_or (limits_in (get_or lines i e)) old → old ≡ last_given limits_in default_limits (take i lines)
-    → new ≡ last_given limits_in default_limits (take (i + 1) lines)
-set_step lines i e old new h n o = n ∙ ap (λ d. unwrap_or (limits_in (get_or lines i e)) d) o ∙ sym (set_more lines i e h)
+limits_kept : (lines : List Line) (line : Line) → filter_map limits_in (line ∷ []) ≡ [] → last_or None (filter_map limits_in lines) ≡ last_or None (filter_map limits_in (lines ++ line ∷ []))
+limits_kept lines line e = sym (ap (last_or None) (none_more limits_in lines line e))
 
-pub back_left : (lines : List Line) (i : ℕ) (d : Line) → i < length lines → get_or lines (length lines - 1 - i) d ∷ drop (length lines - i) lines ≡ drop (length lines - (i + 1)) lines
-back_left lines i d h =
-    let at : length lines - (i + 1) ≡ length lines - 1 - i = omega arith in
-    let next : suc (length lines - 1 - i) ≡ length lines - i = omega arith in
-    let within : length lines - 1 - i < length lines = omega arith in
-    sym (ap (λ n. drop n lines) at ∙ drop-cons lines (length lines - 1 - i) d within ∙ ap (λ n. get_or lines (length lines - 1 - i) d ∷ drop n lines) next)
+limits_set : (lines : List Line) (line : Line) (limits : JobLimits) → filter_map limits_in (line ∷ []) ≡ limits ∷ [] → Some limits ≡ last_or None (filter_map limits_in (lines ++ line ∷ []))
+limits_set lines line limits e = sym (ap (last_or None) (one_more limits_in lines line limits e) ∙ last_push None (filter_map limits_in lines) limits)
+
+-- ---- blocks
+
+-- a line that belongs to no block passes the open one
+passing : (section : Section) (rounds : List (List Payment)) (payments : List Payment) (line : Line) (more : List Line)
+    → payments_of (line ∷ more) ≡ payments_of more → rounds_of (line ∷ more) ≡ rounds_of more → blocks_of (line ∷ more) ≡ blocks_of more
+    → blocks_from section rounds payments (line ∷ more) ≡ blocks_from section rounds payments more
+passing Opening rounds payments line more p r b = b
+passing InBody rounds payments line more p r b = rw (p, b) refl
+passing InRounds rounds payments line more p r b = rw (r, b) refl
+passing InRound rounds payments line more p r b = rw (p, r, b) refl
+
+-- a payment in a body or a round
+paid : (section : Section) (rounds : List (List Payment)) (payments : List Payment) (payment : Payment) (more : List Line) → takes_payments section ≡ true
+    → blocks_from section rounds payments (Pay payment ∷ more) ≡ blocks_from section rounds (payments ++ payment ∷ []) more
+paid Opening rounds payments payment more t = absurd cc
+paid InBody rounds payments payment more t = ap (λ l. BodyOf l ∷ blocks_of more) (sym (append_assoc payments (payment ∷ []) (payments_of more)))
+paid InRounds rounds payments payment more t = absurd cc
+paid InRound rounds payments payment more t = ap (λ l. RoundsOf (rounds ++ l ∷ rounds_of more) ∷ blocks_of more) (sym (append_assoc payments (payment ∷ []) (payments_of more)))
+
+-- a line that begins a block ends the open one
+ended : (section : Section) (rounds : List (List Payment)) (payments : List Payment) (lines : List Line) → payments_of lines ≡ [] → rounds_of lines ≡ []
+    → blocks_from section rounds payments lines ≡ open_block section rounds payments ++ blocks_of lines
+ended Opening rounds payments lines p r = refl
+ended InBody rounds payments lines p r = ap (λ l. BodyOf l ∷ blocks_of lines) (ap (λ l. payments ++ l) p ∙ append-nil payments)
+ended InRounds rounds payments lines p r = ap (λ l. RoundsOf l ∷ blocks_of lines) (ap (λ l. rounds ++ l) r ∙ append-nil rounds)
+ended InRound rounds payments lines p r = ap (λ l. RoundsOf (rounds ++ l) ∷ blocks_of lines) (ap (λ l. l ∷ rounds_of lines) (ap (λ l. payments ++ l) p ∙ append-nil payments) ∙ ap (λ l. payments ∷ l) r)
+
+-- a line that begins a round ends the open one
+rounded : (section : Section) (rounds : List (List Payment)) (payments : List Payment) (more : List Line) → is_in_rounds section ≡ true
+    → blocks_from section rounds payments (Round ∷ more) ≡ blocks_from InRound (with_round section rounds payments) [] more
+rounded Opening rounds payments more t = absurd cc
+rounded InBody rounds payments more t = absurd cc
+rounded InRounds rounds payments more t = refl
+rounded InRound rounds payments more t =
+    ap (λ l. RoundsOf (rounds ++ l ∷ payments_of more ∷ rounds_of more) ∷ blocks_of more) (append-nil payments)
+    ∙ ap (λ l. RoundsOf l ∷ blocks_of more) (sym (append_assoc rounds (payments ∷ []) (payments_of more ∷ rounds_of more)))
+
+-- the blocks of lines behind which one more stands
+behind : (s : Seen) (lines : List Line) (line : Line) → Stands s lines → (more : List Line) → blocks_of ((lines ++ line ∷ []) ++ more) ≡ s.blocks ++ blocks_from s.section s.rounds s.payments (line ∷ more)
+behind s lines line h more = ap blocks_of (append_assoc lines (line ∷ []) more) ∙ h.blocks (line ∷ more)
+
+-- a block is begun
+begun : (s : Seen) (more : List Line) → payments_of more ≡ [] → rounds_of more ≡ [] → s.blocks ++ blocks_from s.section s.rounds s.payments more ≡ (s.blocks ++ open_block s.section s.rounds s.payments) ++ blocks_of more
+begun s more p r = ap (λ l. s.blocks ++ l) (ended s.section s.rounds s.payments more p r) ∙ sym (append_assoc s.blocks (open_block s.section s.rounds s.payments) (blocks_of more))
+
+-- ---- one line more
+
+pub stands_after : (s : Seen) (lines : List Line) (line : Line) → fits s.section (is_some s.limits) line ≡ true → Stands s lines → Stands (gathered_after s line) (lines ++ line ∷ [])
+stands_after s lines Skipped f h = record {
+  section = h.section ∙ section_kept lines Skipped refl;
+  limited = h.limited ∙ limited_kept lines Skipped refl;
+  limits = h.limits ∙ limits_kept lines Skipped refl;
+  opens = h.opens ∙ sym (none_more open_in lines Skipped refl);
+  blocks = λ more. behind s lines Skipped h more ∙ ap (λ l. s.blocks ++ l) (passing s.section s.rounds s.payments Skipped more refl refl refl);
+}
+stands_after s lines (Open account) f h = record {
+  section = h.section ∙ section_kept lines (Open account) refl;
+  limited = h.limited ∙ limited_kept lines (Open account) refl;
+  limits = h.limits ∙ limits_kept lines (Open account) refl;
+  opens = ap (λ l. l ++ account ∷ []) h.opens ∙ sym (one_more open_in lines (Open account) account refl);
+  blocks = λ more. behind s lines (Open account) h more ∙ ap (λ l. s.blocks ++ l) (passing s.section s.rounds s.payments (Open account) more refl refl refl);
+}
+stands_after s lines (Limits limits) f h = record {
+  section = h.section ∙ section_kept lines (Limits limits) refl;
+  limited = limited_set lines (Limits limits) refl;
+  limits = limits_set lines (Limits limits) limits refl;
+  opens = h.opens ∙ sym (none_more open_in lines (Limits limits) refl);
+  blocks = λ more. behind s lines (Limits limits) h more ∙ ap (λ l. s.blocks ++ l) (passing s.section s.rounds s.payments (Limits limits) more refl refl refl);
+}
+stands_after s lines (Pay payment) f h = record {
+  section = h.section ∙ section_kept lines (Pay payment) refl;
+  limited = h.limited ∙ limited_kept lines (Pay payment) refl;
+  limits = h.limits ∙ limits_kept lines (Pay payment) refl;
+  opens = h.opens ∙ sym (none_more open_in lines (Pay payment) refl);
+  blocks = λ more. behind s lines (Pay payment) h more ∙ ap (λ l. s.blocks ++ l) (paid s.section s.rounds s.payments payment more f);
+}
+stands_after s lines Body f h = record {
+  section = section_begun lines Body InBody refl;
+  limited = h.limited ∙ limited_kept lines Body refl;
+  limits = h.limits ∙ limits_kept lines Body refl;
+  opens = h.opens ∙ sym (none_more open_in lines Body refl);
+  blocks = λ more. behind s lines Body h more ∙ begun s (Body ∷ more) refl refl;
+}
+stands_after s lines Rounds f h = record {
+  section = section_begun lines Rounds InRounds refl;
+  limited = h.limited ∙ limited_kept lines Rounds refl;
+  limits = h.limits ∙ limits_kept lines Rounds refl;
+  opens = h.opens ∙ sym (none_more open_in lines Rounds refl);
+  blocks = λ more. behind s lines Rounds h more ∙ begun s (Rounds ∷ more) refl refl;
+}
+stands_after s lines Round f h = record {
+  section = section_begun lines Round InRound refl;
+  limited = h.limited ∙ limited_kept lines Round refl;
+  limits = h.limits ∙ limits_kept lines Round refl;
+  opens = h.opens ∙ sym (none_more open_in lines Round refl);
+  blocks = λ more. behind s lines Round h more ∙ ap (λ l. s.blocks ++ l) (rounded s.section s.rounds s.payments more f);
+}
+
+-- all blocks of the lines so far
+pub blocks_done : (s : Seen) (lines : List Line) → Stands s lines → s.blocks ++ open_block s.section s.rounds s.payments ≡ blocks_of lines
+blocks_done s lines h = sym (ap blocks_of (sym (append-nil lines)) ∙ h.blocks [] ∙ begun s [] refl refl ∙ append-nil (s.blocks ++ open_block s.section s.rounds s.payments))

@@ -1,3 +1,5 @@
 pub mod Numbers
+pub mod Cuts
+pub mod Fields
 pub mod Behind
 pub mod Offences

@@ -1,16 +1,15 @@
 -- The first offence among the lines of a job, line by line.
-use Rattle.std.proofs.Common.{◌≡◌, ℕ, ◌+◌, ◌<◌, ◌≤◌, Bool, true, false, List, [], ◌∷◌, ◌++◌, length, map, drop, get_or, Some, None, Option, Ok, Err, option_map, refl, sym, ◌∙◌, ap, arith, add-one, zero-add, append-nil, drop-cons, Bor}
-use Rattle.std.proofs.lemmas.List.{drop_all}
-use Rattle.std.specs.List.{filter_map}
-use Rattle.ledger_job.specs.Lines.{line_of}
-use Rattle.ledger_job.specs.Jobs.{section_after, has_limits, fits, first_offence, read_lines, job_from, job_or_offence, job_of, blocks_of}
+use Rattle.std.proofs.Common.{◌≡◌, ℕ, ◌+◌, ◌<◌, ◌≤◌, ◌==◌, Bool, true, false, List, [], ◌∷◌, ◌++◌, length, map, Some, None, Option, Ok, Err, option_map, unwrap_or, is_some, refl, sym, ◌∙◌, ap, subst, arith, zero-add, append-nil, Bor}
+use Rattle.std.specs.List.{filter_map, slice_split, last_or}
+use Rattle.ledger_job.specs.Gathered.{Seen, Stands, gathered_after, all_blocks}
+use Rattle.ledger_job.specs.Gathering.{Gathers, Offends}
+use Rattle.ledger_job.specs.Lines.{line_of, lines_of}
+use Rattle.ledger_job.specs.Parts.{parts_left, bytes_left}
+use Rattle.ledger_job.specs.Jobs.{section_after, has_limits, fits, first_offence, read_lines, job_from, job_or_offence, job_of, blocks_of, default_limits}
 use Rattle.ledger_job.specs.declared.job.Job.{Job}
 use Rattle.ledger_job.specs.declared.line.Line.{Line}
-use Rattle.ledger_job.specs.declared.place.Section.{Section}
-
--- what is left of the lines, read one by one
-abbrev pub rest_of : List (Bor (List ℕ)) → ℕ → List (Option Line)
-rest_of lines i = map line_of (map (λ x. x.now) (drop i lines))
+use Rattle.ledger_job.specs.declared.place.Section.TheVariants.{Opening}
+use Rattle.ledger_job.proofs.Behind.{stands_after, blocks_done}
 
 -- a place that lies i lines further on
 abbrev pub moved : ℕ → Option ℕ → Option ℕ
@@ -21,18 +20,13 @@ some_push : (kept : List Line) (line : Line) (more : List (Option Line)) → map
 some_push [] line more = refl
 some_push (k ∷ kept) line more = ap (λ l. Some k ∷ l) (some_push kept line more)
 
-pub step_left : (lines : List (Bor (List ℕ))) (i : ℕ) (d : Bor (List ℕ)) → i < length lines → rest_of lines i ≡ line_of (get_or lines i d).now ∷ rest_of lines (i + 1)
-step_left lines i d h = rw (add-one, drop-cons lines i d) refl
-
-pub step_read : (lines : List (Bor (List ℕ))) (i : ℕ) (d : Bor (List ℕ)) (kept : List Line) (line : Line) (all : List (Option Line))
-    → i < length lines → map Some kept ++ rest_of lines i ≡ all → Some line ≡ line_of (get_or lines i d).now
-    → map Some (kept ++ line ∷ []) ++ rest_of lines (i + 1) ≡ all
-step_read lines i d kept line all h read e =
-    some_push kept line (rest_of lines (i + 1)) ∙ ap (λ o. map Some kept ++ (o ∷ rest_of lines (i + 1))) e ∙ ap (λ l. map Some kept ++ l) (sym (step_left lines i d h)) ∙ read
-
 moved_on : (i : ℕ) (o : Option ℕ) → moved i (option_map (λ n. n + 1) o) ≡ moved (i + 1) o
 moved_on i None = refl
 moved_on i (Some n) = ap Some (omega arith)
+
+moved_none : (o : Option ℕ) → moved 0 o ≡ o
+moved_none None = refl
+moved_none (Some n) = ap Some (zero-add n)
 
 fitting : (kept : List Line) (line : Line) (more : List (Option Line)) → fits (section_after kept) (has_limits kept) line ≡ true
     → first_offence kept (Some line ∷ more) ≡ option_map (λ n. n + 1) (first_offence (kept ++ line ∷ []) more)
@@ -47,56 +41,89 @@ unread : (kept : List Line) (more : List (Option Line)) → first_offence kept (
 unfolding first_offence
 unread kept more = refl
 
-module _ (lines : List (Bor (List ℕ))) (i : ℕ) (d : Bor (List ℕ)) (kept : List Line) (found : Option ℕ) (h : i < length lines) (so_far : found ≡ moved i (first_offence kept (rest_of lines i))) where
-  pub step_right : (line : Line) (section : Section) (limited : Bool) → section ≡ section_after kept → limited ≡ has_limits kept → fits section limited line ≡ true → Some line ≡ line_of (get_or lines i d).now
-      → found ≡ moved (i + 1) (first_offence (kept ++ line ∷ []) (rest_of lines (i + 1)))
-  step_right line section limited s l f e =
-      let here : rest_of lines i ≡ Some line ∷ rest_of lines (i + 1) = step_left lines i d h ∙ ap (λ o. o ∷ rest_of lines (i + 1)) (sym e) in
-      let fit : fits (section_after kept) (has_limits kept) line ≡ true = sym (ap (λ t. fits t limited line) s ∙ ap (λ t. fits (section_after kept) t line) l) ∙ f in
-      so_far ∙ ap (λ m. moved i (first_offence kept m)) here ∙ ap (moved i) (fitting kept line (rest_of lines (i + 1)) fit) ∙ moved_on i (first_offence (kept ++ line ∷ []) (rest_of lines (i + 1)))
-
-  pub none_here : None ≡ line_of (get_or lines i d).now → found ≡ Some i
-  none_here e =
-      let here : rest_of lines i ≡ None ∷ rest_of lines (i + 1) = step_left lines i d h ∙ ap (λ o. o ∷ rest_of lines (i + 1)) (sym e) in
-      so_far ∙ ap (λ m. moved i (first_offence kept m)) here ∙ ap (moved i) (unread kept (rest_of lines (i + 1))) ∙ ap Some (omega arith)
-
-  pub misplaced_here : (line : Line) (section : Section) (limited : Bool) → section ≡ section_after kept → limited ≡ has_limits kept → fits section limited line ≡ false → Some line ≡ line_of (get_or lines i d).now → found ≡ Some i
-  misplaced_here line section limited s l f e =
-      let here : rest_of lines i ≡ Some line ∷ rest_of lines (i + 1) = step_left lines i d h ∙ ap (λ o. o ∷ rest_of lines (i + 1)) (sym e) in
-      let fit : fits (section_after kept) (has_limits kept) line ≡ false = sym (ap (λ t. fits t limited line) s ∙ ap (λ t. fits (section_after kept) t line) l) ∙ f in
-      so_far ∙ ap (λ m. moved i (first_offence kept m)) here ∙ ap (moved i) (misplaced kept line (rest_of lines (i + 1)) fit) ∙ ap Some (omega arith)
-
 none_left : (kept : List Line) → first_offence kept [] ≡ None
 unfolding first_offence
 none_left kept = refl
 
-pub all_right : (lines : List (Bor (List ℕ))) (i : ℕ) (kept : List Line) (found : Option ℕ) → length lines ≤ i → found ≡ moved i (first_offence kept (rest_of lines i)) → found ≡ None
-all_right lines i kept found h e = e ∙ ap (λ l. moved i (first_offence kept (map line_of (map (λ x. x.now) l)))) (drop_all i lines h) ∙ ap (moved i) (none_left kept)
+-- so many lines of the text were gathered, and this is left of it
+pub record Here (text : List ℕ) (left : Option (Bor (List ℕ))) (number : ℕ) (s : Seen) : Type 0 where
+  pub lines : List Line
+  pub read : map Some lines ++ map line_of (parts_left 10 left) ≡ read_lines text
+  pub right : first_offence [] (read_lines text) ≡ moved number (first_offence lines (map line_of (parts_left 10 left)))
+  pub stands : Stands s lines
+  pub counted : number + bytes_left left ≤ length text + 1
 
-pub all_read : (lines : List (Bor (List ℕ))) (i : ℕ) (kept : List Line) (all : List (Option Line)) → length lines ≤ i → map Some kept ++ rest_of lines i ≡ all → map Some kept ≡ all
-all_read lines i kept all h e = rw (drop_all i lines h, append-nil) at e
+stands_nothing : Stands (record { opens = []; limits = None; section = Opening; payments = []; rounds = []; blocks = [] }) []
+unfolding section_after has_limits
+stands_nothing = record { section = refl; limited = refl; limits = refl; opens = refl; blocks = λ more. refl }
 
-moved_none : (o : Option ℕ) → moved 0 o ≡ o
-moved_none None = refl
-moved_none (Some n) = ap Some (zero-add n)
+pub here_first : (text : List ℕ) (left : Option (Bor (List ℕ))) (s : Seen) → parts_left 10 left ≡ lines_of text → bytes_left left ≤ length text + 1
+    → s ≡ record { opens = []; limits = None; section = Opening; payments = []; rounds = []; blocks = [] } → Here text left 0 s
+here_first text left s e b n = record {
+  lines = [];
+  read = ap (map line_of) e;
+  right = sym (ap (λ l. moved 0 (first_offence [] (map line_of l))) e ∙ moved_none (first_offence [] (read_lines text)));
+  stands = subst (λ s. Stands s []) (sym n) stands_nothing;
+  counted = omega arith;
+}
 
-pub at_start : (all : List (Option Line)) → first_offence [] all ≡ moved 0 (first_offence [] all)
-at_start all = sym (moved_none (first_offence [] all))
+module _ (text : List ℕ) (rest : Bor (List ℕ)) (more : Option (Bor (List ℕ))) (bytes : List ℕ) (number : ℕ) (s : Seen) (h : Here text (Some rest) number s) (cut : slice_split (λ b. b == 10) rest.now ≡ bytes ∷ parts_left 10 more) where
+  next_is : (o : Option Line) → line_of bytes ≡ o → map line_of (parts_left 10 (Some rest)) ≡ o ∷ map line_of (parts_left 10 more)
+  next_is o e = ap (map line_of) cut ∙ ap (λ o. o ∷ map line_of (parts_left 10 more)) e
 
-pub kept_some : (kept : List Line) → filter_map (λ line. line) (map Some kept) ≡ kept
+  offence_is : (o : Option Line) → line_of bytes ≡ o → first_offence [] (read_lines text) ≡ moved number (first_offence h.lines (o ∷ map line_of (parts_left 10 more)))
+  offence_is o e = h.right ∙ ap (λ l. moved number (first_offence h.lines l)) (next_is o e)
+
+  fits_as : (line : Line) → fits s.section (is_some s.limits) line ≡ fits (section_after h.lines) (has_limits h.lines) line
+  fits_as line = ap (λ t. fits t (is_some s.limits) line) h.stands.section ∙ ap (λ t. fits (section_after h.lines) t line) h.stands.limited
+
+  pub here_unread : line_of bytes ≡ None → Offends text (number + 1)
+  here_unread e = record { place = number; first = offence_is None e ∙ ap (moved number) (unread h.lines _) ∙ ap Some (omega arith); counted = refl }
+
+  module _ (line : Line) (e : line_of bytes ≡ Some line) where
+    pub here_misplaced : fits s.section (is_some s.limits) line ≡ false → Offends text (number + 1)
+    here_misplaced f = record { place = number; first = offence_is (Some line) e ∙ ap (moved number) (misplaced h.lines line _ (sym (fits_as line) ∙ f)) ∙ ap Some (omega arith); counted = refl }
+
+    pub here_more : (t : Seen) → fits s.section (is_some s.limits) line ≡ true → t ≡ gathered_after s line → bytes_left more < length rest.now + 1 → Here text more (number + 1) t
+    here_more t f n b = record {
+      lines = h.lines ++ line ∷ [];
+      read = some_push h.lines line (map line_of (parts_left 10 more)) ∙ ap (λ l. map Some h.lines ++ l) (sym (next_is (Some line) e)) ∙ h.read;
+      right = offence_is (Some line) e ∙ ap (moved number) (fitting h.lines line _ (sym (fits_as line) ∙ f)) ∙ moved_on number _;
+      stands = subst (λ t. Stands t (h.lines ++ line ∷ [])) (sym n) (stands_after s h.lines line f h.stands);
+      counted = let before = h.counted in omega arith;
+    }
+
+pub here_last : (text : List ℕ) (number : ℕ) (s : Seen) → Here text None number s → Gathers text s
+here_last text number s h = record {
+  lines = h.lines;
+  all = sym (append-nil (map Some h.lines)) ∙ h.read;
+  right = h.right ∙ ap (moved number) (none_left h.lines);
+  stands = h.stands;
+}
+
+kept_some : (kept : List Line) → filter_map (λ line. line) (map Some kept) ≡ kept
 kept_some [] = refl
 kept_some (k ∷ kept) = ap (λ l. k ∷ l) (kept_some kept)
 
-pub job_done : (text : List ℕ) (lines : List Line) (job : Job) → map Some lines ≡ read_lines text → first_offence [] (read_lines text) ≡ None → job ≡ job_from lines → job_of text ≡ Ok job
-unfolding job_of
-job_done text lines job e f j =
-    ap (job_or_offence (filter_map (λ line. line) (read_lines text))) f ∙ ap (λ l. Ok (job_from (filter_map (λ line. line) l))) (sym e)
-    ∙ ap (λ l. Ok (job_from l)) (kept_some lines) ∙ ap Ok (sym j)
-
-pub job_made : (lines : List Line) (job : Job) → job.opens ≡ (job_from lines).opens → job.limits ≡ (job_from lines).limits → job.blocks ≡ blocks_of lines → job ≡ job_from lines
+job_made : (lines : List Line) (job : Job) → job.opens ≡ (job_from lines).opens → job.limits ≡ (job_from lines).limits → job.blocks ≡ blocks_of lines → job ≡ job_from lines
 unfolding job_from
 job_made lines job o l b = λ i. record { opens = o i; limits = l i; blocks = b i }
 
-pub job_bad : (text : List ℕ) (k n : ℕ) → first_offence [] (read_lines text) ≡ Some k → n ≡ k + 1 → job_of text ≡ Err n
+opens_made : (s : Seen) (lines : List Line) → Stands s lines → s.opens ≡ (job_from lines).opens
+unfolding job_from
+opens_made s lines h = h.opens
+
+limits_made : (s : Seen) (lines : List Line) → Stands s lines → unwrap_or s.limits default_limits ≡ (job_from lines).limits
+unfolding job_from
+limits_made s lines h = ap (λ o. unwrap_or o default_limits) h.limits
+
+pub job_gathered : (text : List ℕ) (s : Seen) (job : Job) → Gathers text s → job.opens ≡ s.opens → job.limits ≡ unwrap_or s.limits default_limits → job.blocks ≡ all_blocks s → job_of text ≡ Ok job
 unfolding job_of
-job_bad text k n f e = ap (job_or_offence (filter_map (λ line. line) (read_lines text))) f ∙ ap Err (sym e)
+job_gathered text s job g o l b =
+    let made : job ≡ job_from g.lines = job_made g.lines job (o ∙ opens_made s g.lines g.stands) (l ∙ limits_made s g.lines g.stands) (b ∙ blocks_done s g.lines g.stands) in
+    ap (job_or_offence (filter_map (λ line. line) (read_lines text))) g.right ∙ ap (λ l. Ok (job_from (filter_map (λ line. line) l))) (sym g.all)
+    ∙ ap (λ l. Ok (job_from l)) (kept_some g.lines) ∙ ap Ok (sym made)
+
+pub job_offends : (text : List ℕ) (n : ℕ) → Offends text n → job_of text ≡ Err n
+unfolding job_of
+job_offends text n o = ap (job_or_offence (filter_map (λ line. line) (read_lines text))) o.first ∙ ap Err (sym o.counted)

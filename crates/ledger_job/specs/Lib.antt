@@ -3,4 +3,6 @@ pub mod Keys
 pub mod Lines
 pub mod Jobs
 pub mod Gathered
+pub mod Gathering
 pub mod Payments
+pub mod Parts

@@ -1,125 +1,157 @@
-//! The blocks of a job's lines, gathered from the last line to the first.
-ghost use Rattle.std.specs.Prelude.{◌≡◌, ◌∷◌, [], IfOk, OnOk, reverse};
-ghost use Rattle.ledger_job.specs.Gathered.{Stands};
-ghost use Rattle.ledger_job.specs.Jobs.{blocks_of};
-ghost use Rattle.ledger_job.specs.declared.line.Line.TheVariants.{Pay, Round, Body, Rounds};
+//! The lines of a job, gathered one after another: a line that asks for nothing takes no memory.
+ghost use Rattle.std.specs.Prelude.{◌≡◌, [], OnOk, IfOk, None, is_some, unwrap_or};
+ghost use Rattle.ledger_job.specs.Gathered.{seen, in_block, gathered_after, all_blocks, with_round};
+ghost use Rattle.ledger_job.specs.Jobs.{fits, default_limits};
+ghost use Rattle.ledger_job.specs.declared.place.Section.TheVariants.{Opening, InRound};
 
 use crate::block::Block;
-use crate::line::Line;
+use crate::job::Job;
+use crate::line::{JobLimits, Line, Open};
 use crate::payment::Payment;
+use crate::place::{Section, fits};
 use ledger_codec::{List, OutOfMemory};
-use std::alloc::{AllocError, Global};
+use std::alloc::Global;
+use std::mem;
 
-/// What stands in the lines behind a place, each list with its last item first: the payments up to the
-/// next section, the rounds up to the next block, and the blocks.
+/// What the lines so far ask for. The last block is open: its rounds and its last payments stand by
+/// themselves until the next one begins.
 #[derive(Drop)]
 pub(crate) struct Gathered {
+    pub opens: Vec<Open>,
+    pub limits: Option<JobLimits>,
+    pub section: Section,
     pub payments: Vec<Payment>,
     pub rounds: Vec<List<Payment>>,
     pub blocks: Vec<Block<Payment>>,
 }
 
 impl Gathered {
-    fn new(alloc: Global) -> Gathered
-        ensures { Stands result [] }
+    /// No line yet.
+    pub fn new(alloc: Global) -> Gathered
+        ensures { seen result
+            ≡ record { opens = []; limits = None; section = Opening; payments = []; rounds = []; blocks = [] } }
     {
         Gathered {
+            opens: Vec::new(alloc),
+            limits: None,
+            section: Section::Opening,
             payments: Vec::new(alloc),
             rounds: Vec::new(alloc),
             blocks: Vec::new(alloc),
         }
     }
 
-    /// Puts a line in front.
-    fn with_line(self, alloc: Global, line: &Line) -> Result<Gathered, OutOfMemory>
-        ensures { IfOk result (λ gathered. (lines : _) → Stands self lines → Stands gathered (line.now ∷ lines)) }
+    /// Whether a line may stand behind those so far.
+    pub fn takes(&self, line: &Line) -> bool
+        ensures { result ≡ fits self.now.section (is_some self.now.limits) line.now }
+    {
+        fits(self.section, self.limits.is_some(), line)
+    }
+
+    /// Takes up one more line.
+    pub fn push(&mut self, alloc: Global, line: Line) -> Result<(), OutOfMemory>
+        ensures { OnOk result (seen self.new ≡ gathered_after (seen self.old) line) }
     {
         match line {
-            Line::Pay(payment) => self.with_payment(*payment),
-            Line::Round => self.with_round(alloc),
-            Line::Body => self.with_body(alloc),
-            Line::Rounds => self.with_rounds(alloc),
-            Line::Skipped | Line::Open(_) | Line::Limits(_) => Ok(self),
+            Line::Skipped => Ok(()),
+            Line::Open(account) => {
+                self.opens.push(account)?;
+                Ok(())
+            }
+            Line::Limits(limits) => {
+                self.limits = Some(limits);
+                Ok(())
+            }
+            Line::Pay(payment) => {
+                self.payments.push(payment)?;
+                Ok(())
+            }
+            Line::Body => self.begin_block(alloc, Section::InBody),
+            Line::Rounds => self.begin_block(alloc, Section::InRounds),
+            Line::Round => self.begin_round(alloc),
         }
     }
 
-    fn with_payment(self, payment: Payment) -> Result<Gathered, OutOfMemory>
-        ensures { IfOk result (λ gathered. (lines : _) → Stands self lines → Stands gathered (Pay payment ∷ lines)) }
+    /// Ends the open block, and begins one in this section.
+    fn begin_block(&mut self, alloc: Global, section: Section) -> Result<(), OutOfMemory>
+        ensures { OnOk result (seen self.new ≡ in_block section (seen self.old)) }
     {
-        let Gathered {
-            mut payments,
-            rounds,
-            blocks,
-        } = self;
-        payments.push(payment)?;
-        Ok(Gathered {
-            payments,
-            rounds,
-            blocks,
-        })
+        self.end_block(alloc)?;
+        self.section = section;
+        self.rounds = Vec::new(alloc);
+        self.payments = Vec::new(alloc);
+        Ok(())
     }
 
-    fn with_round(self, alloc: Global) -> Result<Gathered, OutOfMemory>
-        ensures { IfOk result (λ gathered. (lines : _) → Stands self lines → Stands gathered (Round ∷ lines)) }
+    /// Ends the open round, if there is one, and begins the next.
+    fn begin_round(&mut self, alloc: Global) -> Result<(), OutOfMemory>
+        ensures { OnOk result (seen self.new ≡ record (seen self.old) {
+          rounds = with_round self.old.section self.old.rounds.items self.old.payments.items;
+          section = InRound;
+          payments = [];
+        }) }
     {
-        let Gathered {
-            mut payments,
-            mut rounds,
-            blocks,
-        } = self;
-        payments.reverse();
-        rounds.push(List::from_vec(payments))?;
-        Ok(Gathered {
-            payments: Vec::new(alloc),
-            rounds,
-            blocks,
-        })
+        self.end_round(alloc)?;
+        self.section = Section::InRound;
+        self.payments = Vec::new(alloc);
+        Ok(())
     }
 
-    fn with_body(self, alloc: Global) -> Result<Gathered, OutOfMemory>
-        ensures { IfOk result (λ gathered. (lines : _) → Stands self lines → Stands gathered (Body ∷ lines)) }
+    /// Puts the open round, if there is one, to the rounds of the open block.
+    fn end_round(&mut self, alloc: Global) -> Result<(), OutOfMemory>
+        ensures rounds { OnOk result
+            (self.new.rounds.items ≡ with_round self.old.section self.old.rounds.items self.old.payments.items) }
+        ensures opens { self.new.opens ≡ self.old.opens }
+        ensures limits { self.new.limits ≡ self.old.limits }
+        ensures blocks { self.new.blocks ≡ self.old.blocks }
     {
-        let Gathered {
-            mut payments,
-            rounds: _,
-            mut blocks,
-        } = self;
-        payments.reverse();
-        blocks.push(Block::Body(List::from_vec(payments)))?;
-        Ok(Gathered {
-            payments: Vec::new(alloc),
-            rounds: Vec::new(alloc),
-            blocks,
-        })
+        match self.section {
+            Section::InRound => {
+                let payments = mem::replace(&mut self.payments, Vec::new(alloc));
+                self.rounds.push(List::from_vec(payments))?;
+                Ok(())
+            }
+            Section::Opening | Section::InBody | Section::InRounds => Ok(()),
+        }
     }
 
-    fn with_rounds(self, alloc: Global) -> Result<Gathered, OutOfMemory>
-        ensures { IfOk result (λ gathered. (lines : _) → Stands self lines → Stands gathered (Rounds ∷ lines)) }
+    /// Puts the open block, if there is one, to the blocks.
+    fn end_block(&mut self, alloc: Global) -> Result<(), OutOfMemory>
+        ensures blocks { OnOk result (self.new.blocks.items ≡ all_blocks (seen self.old)) }
+        ensures opens { OnOk result (self.new.opens.items ≡ self.old.opens.items) }
+        ensures limits { OnOk result (self.new.limits ≡ self.old.limits) }
     {
-        let Gathered {
-            payments: _,
-            mut rounds,
-            mut blocks,
-        } = self;
-        rounds.reverse();
-        blocks.push(Block::Rounds(List::from_vec(rounds)))?;
-        Ok(Gathered {
-            payments: Vec::new(alloc),
-            rounds: Vec::new(alloc),
-            blocks,
+        match self.section {
+            Section::Opening => Ok(()),
+            Section::InBody => {
+                let payments = mem::replace(&mut self.payments, Vec::new(alloc));
+                self.blocks.push(Block::Body(List::from_vec(payments)))?;
+                Ok(())
+            }
+            Section::InRounds | Section::InRound => {
+                self.end_round(alloc)?;
+                let rounds = mem::replace(&mut self.rounds, Vec::new(alloc));
+                self.blocks.push(Block::Rounds(List::from_vec(rounds)))?;
+                Ok(())
+            }
+        }
+    }
+
+    /// The job of all lines. Where none sets limits, 50 operations are asked for at a time, and one request is out.
+    pub fn into_job(mut self, alloc: Global) -> Result<Job, OutOfMemory>
+        ensures opens { IfOk result (λ job. job.opens ≡ self.opens.items) }
+        ensures limits { IfOk result (λ job. job.limits ≡ unwrap_or self.limits default_limits) }
+        ensures blocks { IfOk result (λ job. job.blocks ≡ all_blocks (seen self)) }
+    {
+        self.end_block(alloc)?;
+        let limits = self.limits.unwrap_or(JobLimits {
+            batch: 50,
+            outstanding: 1,
+        });
+        Ok(Job {
+            opens: List::from_vec(self.opens),
+            limits,
+            blocks: List::from_vec(self.blocks),
         })
     }
-}
-
-/// The blocks of a job's lines.
-pub(crate) fn blocks(alloc: Global, lines: &[Line]) -> Result<Vec<Block<Payment>>, OutOfMemory>
-    ensures { IfOk result (λ v. v.items ≡ blocks_of lines.now) }
-{
-    let mut gathered = Gathered::new(alloc);
-    'back: for i in 0..lines.len() {
-        gathered = gathered.with_line(alloc, &lines[lines.len() - 1 - i])?;
-    }
-    let mut blocks = gathered.blocks;
-    blocks.reverse();
-    Ok(blocks)
 }

@@ -1,14 +1,15 @@
 //! What a run is asked to do, and the text that says so.
 //!
 //! ```text
-//!   bytes --lines--> fields --line_of--> Line --job_of--> Job { opens, limits, blocks }
-//!                                          |
-//!                                          +--> the least offending line, counted from 1
+//!   bytes --cut--> a line --cut--> its fields --parse_line--> Line --Gathered::push--> Job { opens, limits, blocks }
+//!                                                             |
+//!                                                             +--> the least offending line, counted from 1
 //! ```
 //!
 //! A job opens accounts and then lists blocks of transfers: a body, which settles whole, or rounds of
 //! candidates, of which those are taken that settle with the ones taken before them. The text is stated
-//! in `specs/Lines.antt` and `specs/Jobs.antt`, and in words in docs/FORMATS.md.
+//! in `specs/Lines.antt` and `specs/Jobs.antt`, and in words in docs/FORMATS.md. It is read line by line:
+//! what isn't asked for takes no memory.
 #![tactic(auto)]
 
 mod block;

@@ -1,12 +1,12 @@
 //! The lines of a job, read one by one.
-ghost use Rattle.std.specs.Prelude.{◌≡◌, IfOk, map};
+ghost use Rattle.std.specs.Prelude.{◌≡◌};
 ghost use Rattle.ledger_job.specs.Lines.{fields_of, is_skipped, open_from, limits_from, pay_from, in_range, one_word, three_words, four_words, five_words, line_of_fields, line_of};
 
 use crate::key::parse_key;
 use crate::number::parse_number;
 use crate::payment::Payment;
+use crate::split::next_part;
 use ledger_log::Key;
-use std::alloc::{AllocError, Global};
 
 /// An account that the served log opens.
 #[derive(Clone, Copy, Debug, PartialEq, Eq)]
@@ -47,23 +47,16 @@ pub enum Line {
     Pay(Payment),
 }
 
-/// The fields of a line.
-fn fields(alloc: Global, line: &[u8]) -> Result<Vec<&[u8]>, AllocError>
-    ensures { IfOk result (λ v. map (λ x. x.now) v.items ≡ fields_of line.now) }
-{
-    line.split(|byte| *byte == b' ').collect(alloc)
-}
-
-/// What a line says, if it is a line of a job.
+/// What a line says, if it is a line of a job. No line has more than five fields: a sixth one is looked for, and
+/// the others are left alone.
 #[tactic(auto, unfolding(crate::specs::Lines::line_of))]
-pub(crate) fn parse_line(alloc: Global, line: &[u8]) -> Result<Option<Line>, AllocError>
-    ensures { IfOk result (λ read. read ≡ line_of line.now) }
+pub(crate) fn parse_line(line: &[u8]) -> Option<Line>
+    ensures { result ≡ line_of line.now }
 {
     if is_skipped(line) {
-        return Ok(Some(Line::Skipped));
+        return Some(Line::Skipped);
     }
-    let fields = fields(alloc, line)?;
-    Ok(line_of_fields(&fields))
+    line_of_fields(line)
 }
 
 /// Whether a line is empty or a comment.
@@ -76,15 +69,25 @@ fn is_skipped(line: &[u8]) -> bool
     }
 }
 
-fn line_of_fields(fields: &[&[u8]]) -> Option<Line>
-    ensures { result ≡ line_of_fields (map (λ x. x.now) fields.now) }
+/// What the fields of a line say, taken one after another.
+fn line_of_fields(line: &[u8]) -> Option<Line>
+    ensures { result ≡ line_of_fields (fields_of line.now) }
 {
-    match fields {
-        [word] => one_word(word),
-        [word, batch, outstanding] => three_words(word, batch, outstanding),
-        [word, key, balance, nonce] => four_words(word, key, balance, nonce),
-        [word, from, to, amount, nonce] => five_words(word, from, to, amount, nonce),
-        _ => None,
+    let mut left = Some(line);
+    let word = next_part(&mut left, b' ')?;
+    let Some(first) = next_part(&mut left, b' ') else {
+        return one_word(word);
+    };
+    let second = next_part(&mut left, b' ')?;
+    let Some(third) = next_part(&mut left, b' ') else {
+        return three_words(word, first, second);
+    };
+    let Some(fourth) = next_part(&mut left, b' ') else {
+        return four_words(word, first, second, third);
+    };
+    match next_part(&mut left, b' ') {
+        Some(_) => None,
+        None => five_words(word, first, second, third, fourth),
     }
 }
 

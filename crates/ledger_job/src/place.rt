@@ -1,6 +1,6 @@
 //! Where each line of a job may stand.
 ghost use Rattle.std.specs.Prelude.{◌≡◌};
-ghost use Rattle.ledger_job.specs.Jobs.{begins, is_opening, is_in_rounds, takes_payments, fits, is_limits};
+ghost use Rattle.ledger_job.specs.Jobs.{is_opening, is_in_rounds, takes_payments, fits};
 
 use crate::line::Line;
 
@@ -35,25 +35,6 @@ impl Section {
     {
         matches!(self, Section::InBody | Section::InRound)
     }
-}
-
-/// The section that a line begins.
-pub(crate) fn begins(line: &Line) -> Option<Section>
-    ensures { result ≡ begins line.now }
-{
-    match line {
-        Line::Body => Some(Section::InBody),
-        Line::Rounds => Some(Section::InRounds),
-        Line::Round => Some(Section::InRound),
-        Line::Skipped | Line::Open(_) | Line::Limits(_) | Line::Pay(_) => None,
-    }
-}
-
-/// Whether a line sets limits.
-pub(crate) fn is_limits(line: &Line) -> bool
-    ensures { result ≡ is_limits line.now }
-{
-    matches!(line, Line::Limits(_))
 }
 
 /// Whether a line may stand in a section, behind limits or not.

@@ -1,17 +1,10 @@
-use Rattle.std.proofs.Common.{◌≡◌, ◌∙◌, ap}
-use Rattle.ledger_job.specs.Jobs.{job_from, blocks_of}
-use Rattle.ledger_job.proofs.Offences.{job_done, job_made, job_bad}
+use Rattle.std.proofs.Common.{◌∙◌}
+use Rattle.ledger_job.specs.Gathered.{seen}
+use Rattle.ledger_job.proofs.Offences.{job_gathered, job_offends}
 use Rattle.ledger_job.proofs.job.parse_job.Goals as goal
 
 pub returns-in-Err-clause-bad : goal.returns-in-Err-clause-bad
-returns-in-Err-clause-bad c = λ n h.
-    let bad = c.in-Err.ensures.bad n (cc) in
-    job_bad c.args.text.now bad.0 n bad.1 bad.2
+returns-in-Err-clause-bad c = λ n h. job_offends c.args.text.now n (c.in-Err.ensures.bad n (cc))
 
 pub returns-clause-job : goal.returns-clause-job
-returns-clause-job c =
-    let lines = c.in-Ok.lines.items in
-    let opens : c.from_vec.result ≡ (job_from lines).opens = c.from_vec.ensures ∙ c.in_ok-opens.ensures ∙ ap (λ l. (job_from l).opens) c.deref.ensures.value in
-    let limits : c.limits_among.result ≡ (job_from lines).limits = c.limits_among.ensures ∙ ap (λ l. (job_from l).limits) c.deref-3.ensures.value in
-    let blocks : c.from_vec-2.result ≡ blocks_of lines = c.from_vec-2.ensures ∙ c.in_ok-blocks.ensures ∙ ap blocks_of c.deref-2.ensures.value in
-    job_done c.args.text.now lines _ c.in-Ok.ensures.all c.in-Ok.ensures.right (job_made lines _ opens limits blocks)
+returns-clause-job c = job_gathered c.args.text.now (seen c.in-Ok.gathered) c.in_ok-into_job.field-0 c.in-Ok.ensures.stands c.in_ok-into_job.ensures.opens c.in_ok-into_job.ensures.limits c.in_ok-into_job.ensures.blocks
