@@ -1,0 +1,108 @@
+#!/usr/bin/env python3
+"""What a hostile job costs: time against a harmless job of the same shape, and memory a byte of its text.
+
+    python3 bench/hostile.py [--payments N] [--bytes N] [--against PROGRAM] [--times N]
+
+Runs crates/ledger_main/out/ledger_main, which `rt ci` leaves there. Two kinds of jobs:
+
+- keys chosen so that they collide in a table that hashes by std's fast hasher with its fixed seed: their bytes 8 to
+  15 are its multiplier, which brings every one of them to one state. A body and rounds of payments among them are
+  timed against the same payments among other keys of that length.
+- texts of which little or nothing is kept, and right jobs of many lines: their peak of resident memory, less that of
+  the empty job, a byte of the text. With --against another program runs the right jobs too, and the ratio of the
+  peaks is printed.
+"""
+import argparse
+import os
+import pathlib
+import statistics
+import subprocess
+import tempfile
+
+PROGRAM = pathlib.Path(__file__).parent.parent / "crates" / "ledger_main" / "out" / "ledger_main"
+MULTIPLIER = 0x9E3779B97F4A7C15
+
+
+def chosen_key(number):
+    return "0x" + (number.to_bytes(8, "big") + MULTIPLIER.to_bytes(8, "little") + bytes(16)).hex()
+
+
+def other_key(number):
+    return "0x" + (number.to_bytes(8, "big") + bytes(23) + b"\1").hex()
+
+
+def payments(key, count, kind):
+    """Payments of nothing from key to key: each touches one key more."""
+    lines = [kind] + (["round"] if kind == "rounds" else [])
+    lines += [f"pay {key(i)} {key(i + 1)} 0 0" for i in range(count)]
+    return ("\n".join(lines) + "\n").encode()
+
+
+def opens(count):
+    return "".join(f"open k{i} 1000000 0\n" for i in range(count)).encode()
+
+
+def paid(count):
+    lines = [f"open k{i} 1000000 0\n" for i in range(count)] + ["body\n"]
+    lines += [f"pay k{i} k{(i * 7 + 1) % count} 1 0\n" for i in range(count)]
+    return "".join(lines).encode()
+
+
+def run(program, job):
+    """Seconds of user time and the peak of resident memory in bytes."""
+    with tempfile.TemporaryFile() as file:
+        file.write(job)
+        file.seek(0)
+        child = subprocess.Popen([program, "local"], stdin=file, stdout=subprocess.DEVNULL)
+        _, status, spent = os.wait4(child.pid, 0)
+        child.returncode = os.waitstatus_to_exitcode(status)
+    return spent.ru_utime, spent.ru_maxrss * 1024
+
+
+def timed(program, job, times):
+    return statistics.median(run(program, job)[0] for _ in range(times))
+
+
+def show_keys(given):
+    for kind in ("body", "rounds"):
+        chosen = timed(PROGRAM, payments(chosen_key, given.payments, kind), given.times)
+        other = timed(PROGRAM, payments(other_key, given.payments, kind), given.times)
+        print(f"{kind} of {given.payments} payments: chosen keys {chosen:.2f} s, others {other:.2f} s, ratio {chosen / max(other, 0.01):.2f}")
+
+
+def show_texts(given):
+    least = run(PROGRAM, b"")[1]
+    texts = {
+        "line feeds": b"\n",
+        "comments": b"#\n",
+        "spaces in one line": b" ",
+        "fields of one line": b"a ",
+        "bodies": b"body\n",
+    }
+    for name, piece in texts.items():
+        text = piece * (given.bytes // len(piece))
+        if piece == b" " or piece == b"a ":
+            text += b"\n"
+        peak = run(PROGRAM, text)[1] - least
+        print(f"{len(text)} bytes of {name}: {peak / len(text):.1f} bytes a byte")
+    for name, job in (("1000000 open lines", opens(1_000_000)), ("100000 open lines and payments", paid(100_000))):
+        peak = run(PROGRAM, job)[1]
+        line = f"{name}: {peak >> 20} MB, {(peak - least) / len(job):.1f} bytes a byte"
+        if given.against:
+            line += f", ratio {peak / run(given.against, job)[1]:.2f}"
+        print(line)
+
+
+def main():
+    options = argparse.ArgumentParser()
+    options.add_argument("--payments", type=int, default=20_000)
+    options.add_argument("--bytes", type=int, default=8_000_000)
+    options.add_argument("--times", type=int, default=3)
+    options.add_argument("--against")
+    given = options.parse_args()
+    show_keys(given)
+    show_texts(given)
+
+
+if __name__ == "__main__":
+    main()
