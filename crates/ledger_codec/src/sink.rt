@@ -1,10 +1,10 @@
 //! Where bytes go.
-ghost use Rattle.std.specs.Prelude.{◌≡◌, List, ℕ, Some, length, ◌<◌};
+ghost use Rattle.std.specs.Prelude.{◌≡◌, List, ℕ, Bool, Some, length, ◌<◌, IsErrOf, IsTrue};
 ghost use Rattle.std.specs.declared.option.Option.{Option};
 ghost use Rattle.std.specs.Io.{WritesAtMost};
 ghost use Rattle.std.specs.Io.KnownBytes.{WriteAppends};
 ghost use Rattle.ledger_codec.specs.Causes.{HasCauseOf};
-ghost use Rattle.ledger_codec.specs.declared.sink.SinkError.TheVariants.{Failed};
+ghost use Rattle.ledger_codec.specs.declared.sink.SinkError.TheVariants.{Failed, OutOfMemory as memory_wanting};
 ghost use Rattle.std.specs.Prelude.{IfOk};
 
 use std::alloc::{AllocError, Global};
@@ -27,12 +27,16 @@ pub trait Sink {
     /// How often a write has failed.
     ghost faults: { Self → ℕ };
 
+    /// Whether a write may want memory.
+    ghost grows: { Bool };
+
     /// Appends as many first bytes as it answers, at least one of a piece that isn't empty.
     fn write(&mut self, bytes: &[u8]) -> Result<usize, SinkError>
         ensures bound { WritesAtMost result bytes.now }
         ensures progress { IfOk result (λ n. 0 < length bytes.now → 0 < n) }
         ensures bytes { WriteAppends (written self.old) (written self.new) result bytes.now }
-        ensures cause { HasCauseOf Failed (faults self.old) (faults self.new) result };
+        ensures cause { HasCauseOf Failed (faults self.old) (faults self.new) result }
+        ensures memory { IsErrOf result memory_wanting → IsTrue grows };
 }
 
 /// Any writer of std as a sink. It counts the writes that failed or took nothing.
@@ -56,20 +60,24 @@ impl<W: Write> Writing<W> {
 }
 
 impl<W: Write> Sink for Writing<W> {
-    ghost use Rattle.std.specs.Prelude.{◌≡◌, ◌<◌, IfOk, OnOk, length};
+    ghost use Rattle.std.specs.Prelude.{◌≡◌, ◌<◌, false, IfOk, OnOk, IsErrOf, IsTrue, length};
     ghost use Rattle.std.specs.Io.{WritesAtMost};
     ghost use Rattle.std.specs.Io.KnownBytes.{WriteAppends};
     ghost use Rattle.ledger_codec.specs.Causes.{HasCauseOf};
+    ghost use Rattle.ledger_codec.specs.declared.sink.SinkError.TheVariants.{OutOfMemory};
 
     ghost written = { λ s. W.contents s.inner };
 
     ghost faults = { λ s. s.faults };
+
+    ghost grows = { false };
 
     fn write(&mut self, bytes: &[u8]) -> Result<usize, SinkError>
         ensures bound { WritesAtMost result bytes.now }
         ensures progress { IfOk result (λ n. 0 < length bytes.now → 0 < n) }
         ensures bytes { WriteAppends (W.contents self.old.inner) (W.contents self.new.inner) result bytes.now }
         ensures cause { HasCauseOf Failed self.old.faults self.new.faults result }
+        ensures memory { IsErrOf result OutOfMemory → IsTrue false }
         ensures steady { OnOk result (self.new.faults ≡ self.old.faults) }
     {
         match self.inner.write(bytes) {
@@ -118,21 +126,25 @@ impl MemorySink {
 }
 
 impl Sink for MemorySink {
-    ghost use Rattle.std.specs.Prelude.{◌≡◌, ◌<◌, ◌↔◌, Some, IfOk, IsErrOf, IsTrue, length};
+    ghost use Rattle.std.specs.Prelude.{◌≡◌, ◌<◌, ◌↔◌, Some, true, IfOk, IsErrOf, IsTrue, length};
     ghost use Rattle.std.specs.Io.{WritesAtMost};
     ghost use Rattle.std.specs.Io.KnownBytes.{WriteAppends};
     ghost use Rattle.ledger_codec.specs.Causes.{HasCauseOf};
     ghost use Rattle.ledger_codec.specs.Memory.{sink_bytes, sink_calls, sink_failing, is_among, next_call};
+    ghost use Rattle.ledger_codec.specs.declared.sink.SinkError.TheVariants.{OutOfMemory};
 
     ghost written = { λ s. Some (sink_bytes s) };
 
     ghost faults = { λ s. s.faults };
+
+    ghost grows = { true };
 
     fn write(&mut self, bytes: &[u8]) -> Result<usize, SinkError>
         ensures bound { WritesAtMost result bytes.now }
         ensures progress { IfOk result (λ n. 0 < length bytes.now → 0 < n) }
         ensures bytes { WriteAppends (Some (sink_bytes self.old)) (Some (sink_bytes self.new)) result bytes.now }
         ensures cause { HasCauseOf Failed self.old.faults self.new.faults result }
+        ensures memory { IsErrOf result OutOfMemory → IsTrue true }
         ensures fails { IsErrOf result Failed ↔ IsTrue (is_among (sink_calls self.old) (sink_failing self.old)) }
         ensures steady { (IsErrOf result Failed → ⊥) → self.new.faults ≡ self.old.faults }
         ensures calls { sink_calls self.new ≡ next_call (sink_calls self.old) }

@@ -55,11 +55,13 @@ struct ByteByByte {
 }
 
 impl Sink for ByteByByte {
-    ghost use Rattle.std.specs.Prelude.{Some};
+    ghost use Rattle.std.specs.Prelude.{Some, true};
 
     ghost written = { λ s. Some s.bytes.items };
 
     ghost faults = { λ _. 0 };
+
+    ghost grows = { true };
 
     fn write(&mut self, bytes: &[u8]) -> Result<usize, SinkError> {
         let Some(first) = bytes.first() else {
