@@ -1,6 +1,6 @@
 #!/usr/bin/env python3
-"""Runs the built program over the examples and over made jobs, and compares what it prints and its status
-with the reference in reference.py. Ends with a line 'N passed, M failed'.
+"""Runs the built program over the examples, over made jobs and with words that are no form of it, and compares what
+it prints and its status with the reference in reference.py. Ends with a line 'N passed, M failed'.
 
     python3 tests/check_examples.py PROGRAM
 """
@@ -48,13 +48,19 @@ def made_job(seed):
     return ("\n".join(lines) + rng.choice(["", "\n"])).encode()
 
 
+def answer(words, job):
+    """The texts of which one is printed, and the status."""
+    return local(job) if words == ["local"] else (["error usage\n"], 2)
+
+
 def main(program):
-    cases = [(p.name, p.read_bytes()) for p in sorted((ROOT / "examples").glob("*.job"))]
-    cases += [(f"seed {seed}", made_job(seed)) for seed in range(300)]
+    cases = [(p.name, ["local"], p.read_bytes()) for p in sorted((ROOT / "examples").glob("*.job"))]
+    cases += [(f"seed {seed}", ["local"], made_job(seed)) for seed in range(300)]
+    cases += [(f"words {words}", words, b"") for words in ([], ["Local"], ["local", "local"], ["--help"], [""])]
     failed, started = 0, time.monotonic()
-    for name, job in cases:
-        run = subprocess.run([program, "local"], input=job, capture_output=True, timeout=60)
-        allowed, status = local(job)
+    for name, words, job in cases:
+        run = subprocess.run([program, *words], input=job, capture_output=True, timeout=60)
+        allowed, status = answer(words, job)
         printed = run.stdout.decode()
         good = run.returncode == status and printed in allowed
         if name.endswith(".job"):
