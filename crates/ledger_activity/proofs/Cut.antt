@@ -1,10 +1,10 @@
-use Rattle.std.proofs.Common.{◌≡◌, ℕ, zero, suc, ◌+◌, ◌*◌, Bool, List, [], ◌∷◌, ◌++◌, length, drop, Some, Result, Ok, Err, IfOk, refl, sym, ap, ◌∙◌, arith}
+use Rattle.std.proofs.Common.{◌≡◌, ℕ, zero, suc, ◌+◌, ◌-◌, ◌*◌, ◌<◌, ◌≤◌, Bool, false, if◌then◌else◌, replicate, get_or, List, [], ◌∷◌, ◌++◌, length, drop, Some, Result, Ok, Err, IfOk, refl, sym, ap, ◌∙◌, arith}
 use Rattle.std.specs.List.{slice_get}
 use Rattle.std.proofs.lemmas.List.{length_push}
 use Rattle.ledger_log.specs.declared.any.AnyOp.{AnyOp}
 use Rattle.ledger_merkle.specs.Tree.{leaf, push, grow, root, tree_root}
 use Rattle.ledger_merkle.proofs.Growing.{grow-append}
-use Rattle.ledger_activity.specs.Chunks.{byte_of, bytes_of, chunk_of, first_chunks}
+use Rattle.ledger_activity.specs.Chunks.{bit_of, byte_of, bytes_of, chunk_of, first_chunks}
 
 -- the operation at a place, and those behind it
 pub drop_at_get : (ops : List AnyOp) (i : ℕ) (op : AnyOp) → slice_get ops i ≡ Some op → drop i ops ≡ op ∷ drop (i + 1) ops
@@ -55,3 +55,21 @@ all_chunks hash bits size count nodes s n =
 pub if_ok : {T E : Type 0} (r : Result T E) (P Q : T → Type 0) → ((x : T) → P x → Q x) → IfOk r P → IfOk r Q
 if_ok (Ok x) P Q f h = f x h
 if_ok (Err e) P Q f h = tt
+
+-- no bit is set before the front
+low_item : (front i : ℕ) (bits : List Bool) → i < front → get_or (replicate front false ++ bits) i false ≡ false
+low_item zero i bits h = absurd (omega arith)
+low_item (suc front) zero bits h = refl
+low_item (suc front) (suc i) bits h = low_item front i bits (omega arith)
+
+pub low_bit : (front i : ℕ) (bits : List Bool) → i < front → bit_of (replicate front false ++ bits) i ≡ 0
+low_bit front i bits h = ap (λ b. if b then 1 else 0) (low_item front i bits h)
+
+-- behind it they are those that are given
+high_item : (front i : ℕ) (bits : List Bool) → front ≤ i → get_or (replicate front false ++ bits) i false ≡ get_or bits (i - front) false
+high_item zero i bits h = ap (λ k. get_or bits k false) (let same : i ≡ i - 0 = omega arith in same)
+high_item (suc front) zero bits h = absurd (omega arith)
+high_item (suc front) (suc i) bits h = high_item front i bits (omega arith) ∙ ap (λ k. get_or bits k false) (let same : i - front ≡ suc i - suc front = omega arith in same)
+
+pub high_bit : (front i : ℕ) (bits : List Bool) → front ≤ i → bit_of (replicate front false ++ bits) i ≡ bit_of bits (i - front)
+high_bit front i bits h = ap (λ b. if b then 1 else 0) (high_item front i bits h)

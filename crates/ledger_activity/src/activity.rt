@@ -1,6 +1,5 @@
 //! The bits of a log, and its canonical root.
-ghost use Rattle.std.specs.Prelude.{◌≡◌, ℕ, ◌+◌, ◌-◌, ◌<◌, ◌≤◌, Bool, List as Items, IsOkUnless, IfOk, OnOk, drop, ◌∷◌};
-ghost use Rattle.ledger_log.specs.View.{log_size};
+ghost use Rattle.std.specs.Prelude.{◌≡◌, ℕ, ◌+◌, ◌<◌, ◌≤◌, Bool, false, List as Items, IsOkUnless, IfOk, OnOk, length, drop, replicate, ◌++◌, ◌∷◌};
 ghost use Rattle.ledger_activity.specs.Active.{IsLater, activity, log_bits};
 
 use crate::CurrentFamily;
@@ -42,13 +41,17 @@ impl<H: Hasher> Activity for Log<CurrentFamily, H> {
 
     fn bits(&self) -> Result<Vec<bool>, LogFault> {
         let alloc = allocator_of(self)?;
-        Ok(active_bits(alloc, self)?)
+        let retained = active_bits(alloc, self)?;
+        let front = self.front().get() as usize;
+        Ok(all_bits(alloc, front, retained.as_slice())?)
     }
 
     fn current_root(&self) -> Result<Digest, LogFault> {
         let alloc = allocator_of(self)?;
-        let bits = active_bits(alloc, self)?;
-        let root_of_bits = root_of_bits::<H>(alloc, bits.as_slice())?;
+        let retained = active_bits(alloc, self)?;
+        let front = self.front().get() as usize;
+        let _size = self.size();
+        let root_of_bits = root_of_bits::<H>(alloc, front, retained.as_slice())?;
         Ok(hash_canonical::<H>(&self.root(), &root_of_bits))
     }
 }
@@ -61,39 +64,46 @@ fn allocator_of<F: Family, H: Hasher>(log: &Log<F, H>) -> Result<Global, OutOfMe
     }
 }
 
-/// The bits of the log, found in one walk from its end.
+/// A bit for each place: none is set below the front.
+fn all_bits(alloc: Global, front: usize, retained: &[bool]) -> Result<Vec<bool>, OutOfMemory>
+    ensures { IfOk result (λ bits. bits.items ≡ replicate front false ++ retained.now) }
+{
+    let mut bits = Vec::from_elem(alloc, false, front)?;
+    bits.extend_from_slice(retained)?;
+    Ok(bits)
+}
+
+/// The bits of the retained operations, found in one walk from their end.
 fn active_bits<H: Hasher>(
     alloc: Global,
     log: &Log<CurrentFamily, H>,
 ) -> Result<Vec<bool>, OutOfMemory>
-    ensures { IfOk result (λ bits. bits.items ≡ log_bits log.now) }
+    ensures bits { IfOk result (λ bits. bits.items ≡ activity log.now.ops) }
+    ensures count { IfOk result (λ bits. length bits.items ≡ length log.now.ops) }
 {
-    let front = log.front().get();
-    let mut place = log.size().get();
-    let mut bits = Vec::from_elem(alloc, false, place as usize)?;
+    let mut index = (log.size().get() - log.front().get()) as usize;
+    let mut bits = Vec::from_elem(alloc, false, index)?;
     let mut later = Later::new(alloc);
-    while place > front {
-        place -= 1;
-        let active = bit_before(log, place, &mut later)?;
-        bits[place as usize] = active;
+    while index > 0 {
+        index -= 1;
+        bits[index] = bit_before(log, index as u64, &mut later)?;
     }
     Ok(bits)
 }
 
-/// The bit of the operation at this place, before those that were met.
+/// The bit of the operation with this index from the front on, before those that were met.
 fn bit_before<H: Hasher>(
     log: &Log<CurrentFamily, H>,
-    place: u64,
+    index: u64,
     later: &mut Later,
 ) -> Result<bool, OutOfMemory>
-    requires least { log.now.front ≤ place }
-    requires most { place < log_size log.now }
-    requires later { IsLater later.old (drop (place + 1 - log.now.front) log.now.ops) }
-    ensures active { IfOk result (λ active. activity (drop (place - log.now.front) log.now.ops) ≡ active ∷ activity (drop (place + 1 - log.now.front) log.now.ops)) }
-    ensures later { OnOk result (IsLater later.new (drop (place - log.now.front) log.now.ops)) }
+    requires most { index < length log.now.ops }
+    requires later { IsLater later.old (drop (index + 1) log.now.ops) }
+    ensures active { IfOk result (λ active. activity (drop index log.now.ops) ≡ active ∷ activity (drop (index + 1) log.now.ops)) }
+    ensures later { OnOk result (IsLater later.new (drop index log.now.ops)) }
 {
-    let _size = log.size().get();
-    match log.op_at(Location::ZERO.plus(place)) {
+    let _size = log.size();
+    match log.op_at(log.front().plus(index)) {
         Some(op) => later.meet(op),
         None => unreachable!(),
     }

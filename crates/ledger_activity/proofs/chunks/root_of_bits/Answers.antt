@@ -1,4 +1,5 @@
-use Rattle.std.proofs.Common.{◌≡◌, ◌+◌, ◌/◌, [], length, sym, ap, ◌∙◌, arith}
+use Rattle.std.proofs.Common.{◌≡◌, ◌+◌, ◌/◌, ◌++◌, [], length, false, replicate, sym, ap, ◌∙◌, arith}
+use Rattle.std.proofs.lemmas.List.{length-append, length-replicate}
 use Rattle.ledger_merkle.specs.Tree.{leaf, push, grow, tree_root}
 use Rattle.ledger_activity.specs.Chunks.{first_chunks}
 use Rattle.ledger_activity.proofs.Cut.{no_chunks, grow_chunk, all_chunks}
@@ -7,13 +8,13 @@ use Rattle.ledger_activity.proofs.chunks.root_of_bits.Goals as goal
 pub loop-index-init : goal.loop-index-init
 loop-index-init g c = record {
   size = c.new-peaks.ensures.0;
-  nodes = c.new-peaks.ensures.1 ∙ sym (ap (grow g.H.Hasher.digest 0 []) (no_chunks c.args.bits.now));
+  nodes = c.new-peaks.ensures.1 ∙ sym (ap (grow g.H.Hasher.digest 0 []) (no_chunks (replicate c.args.front false ++ c.args.bits.now)));
 }
 
 pub loop-index-preserved : goal.loop-index-preserved
 loop-index-preserved g c =
     let hash = g.H.Hasher.digest in
-    let bits = c.args.bits.now in
+    let bits = (replicate c.args.front false ++ c.args.bits.now) in
     let i = c.loop-index.index in
     let old = c.loop-index.peaks in
     let chunk = c.chunk_at-chunk.result in
@@ -31,8 +32,8 @@ loop-index-preserved g c =
 pub returns : goal.returns
 returns g c =
     let hash = g.H.Hasher.digest in
-    let bits = c.args.bits.now in
+    let bits = (replicate c.args.front false ++ c.args.bits.now) in
     let p = c.loop-index.peaks in
     let i = c.loop-index.index in
-    let count : i ≡ (length bits + 255) / 256 = omega (arith, c.div_ceil-count.ensures) in
+    let count : i ≡ (length bits + 255) / 256 = omega (arith, c.div_ceil-count.ensures, length-append (replicate c.args.front false) c.args.bits.now, length-replicate c.args.front false) in
     c.root.ensures ∙ (all_chunks hash bits p.size i p.nodes c.loop-index.invariant.size c.loop-index.invariant.nodes ∙ ap (λ k. tree_root hash (first_chunks bits k)) count)
