@@ -6,6 +6,10 @@
 //! ```
 #![tactic(auto)]
 
+mod lanes;
 mod strategy;
+mod workers;
 
+pub use lanes::{joined, row_of};
 pub use strategy::{Sequential, Strategy};
+pub use workers::Workers;

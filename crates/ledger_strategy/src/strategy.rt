@@ -2,9 +2,9 @@
 ghost use Rattle.std.specs.Prelude.{◌≡◌, ℕ, IfOk};
 ghost use Rattle.ledger_strategy.specs.Parts.{AreResults};
 
+use crate::lanes::side_by_side;
 use ledger_codec::OutOfMemory;
 use std::alloc::Global;
-use std::thread;
 use std::thread::Threads;
 
 /// Runs work that falls into parts.
@@ -31,22 +31,11 @@ pub trait Strategy: Sync {
         requires { F.IsAlwaysCallable work }
         ensures { IfOk result (λ answers. AreResults (F.post work) parts answers.items) }
     {
-        if self.workers() <= 1 {
+        let threads = self.workers().min(parts);
+        if threads <= 1 {
             return one_by_one(alloc, parts, work);
         }
-        let answers = thread::map_indices(
-            rt,
-            alloc,
-            parts,
-            &|part: usize| -> R
-                requires { F.IsAlwaysCallable work }
-                ensures { F.post work part result }
-            {
-                self.begins(part);
-                work(part)
-            },
-        )?;
-        Ok(answers)
+        side_by_side(rt, alloc, self, threads, parts, &work)
     }
 }
 
