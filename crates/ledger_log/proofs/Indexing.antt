@@ -11,10 +11,10 @@ use Rattle.ledger_merkle.proofs.Trees.{below_or_not}
 use Rattle.ledger_log.specs.View.{written_at, value_or_none, value_at, key_written, value_written}
 use Rattle.ledger_log.specs.Index.{entry_at, or_zero, end_at, end_where, retained, writes_key, place_after, end_after, HasEntry, last_write, IsIndex}
 
-retained_zero : (front e : ℕ) → e ≤ front → retained front e ≡ 0
+pub retained_zero : (front e : ℕ) → e ≤ front → retained front e ≡ 0
 retained_zero front e l = let t : nat_le e front ≡ true = grind (arith, nat_tests) in rw t refl
 
-retained_same : (front e : ℕ) → front < e → retained front e ≡ e
+pub retained_same : (front e : ℕ) → front < e → retained front e ≡ e
 retained_same front e l = let t : nat_le e front ≡ false = grind (arith, nat_tests) in rw t refl
 
 -- a key with one entry more or another one

@@ -2,3 +2,4 @@ pub mod Floors
 pub mod Varints
 pub mod Indexing
 pub mod Logs
+pub mod Living

@@ -6,6 +6,7 @@ pub mod Any
 pub mod Immutable
 pub mod Keyless
 pub mod Index
+pub mod Active
 pub use Rattle.ledger_merkle.specs.Tree
 pub use Rattle.ledger_merkle.specs.Range
 pub use Rattle.ledger_merkle.specs.Leaves

@@ -147,7 +147,7 @@ pub(crate) fn look_up<F: Family>(
 }
 
 /// The place behind the key's last operation as the index has it, 0 where it has none.
-fn end_of(index: &Index, key: &Key) -> u64
+pub(crate) fn end_of(index: &Index, key: &Key) -> u64
     ensures { result ≡ end_at index.now key.now }
 {
     match index.get(key) {

@@ -8,6 +8,8 @@ ghost use Rattle.ledger_log.specs.View.{LogView, log_size, log_root, log_list, l
 ghost use Rattle.ledger_log.specs.Index.{HasEntry, end_at};
 ghost use Rattle.ledger_log.specs.Faults.{parts_refusal, ops_refusal, append_refusal, batches_refusal, range_refusal, prune_refusal};
 
+mod active;
+
 use crate::index::{Index, copy_of, forget, forget_unwritten, index_of, look_up, make_room, note};
 use crate::{Family, Key, KeyedFamily, LogFault, Value};
 use ledger_codec::{Digest, OutOfMemory};
