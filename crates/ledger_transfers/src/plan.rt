@@ -77,10 +77,7 @@ fn gather<K: Copy + Eq + Hash, E: Copy>(
     ensures within { OnOk result (IsWithinSums K.eq all.now) }
     ensures fails { IfErr result (GatherFails K.eq all.now) }
 {
-    let Ok(mut table) = IndexMap::with_capacity_and_hasher(alloc, all.len(), Seeded::new(seed))
-    else {
-        return Err(PlanFault::OutOfMemory);
-    };
+    let mut table = IndexMap::with_hasher(alloc, Seeded::new(seed));
     for (key, change) in all {
         add_touch(alloc, &mut table, *key, *change)?;
     }
