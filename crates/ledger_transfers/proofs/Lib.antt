@@ -14,5 +14,6 @@ pub mod TakenLemmas
 pub mod VerdictLemmas
 pub mod WholeLemmas
 pub mod RegisterLemmas
+pub mod SlotLemmas
 pub mod BatchLemmas
 pub mod OrderLemmas

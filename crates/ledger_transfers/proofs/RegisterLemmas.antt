@@ -7,8 +7,7 @@ use Rattle.std.specs.Map.{lookup, keys_of}
 use Rattle.std.specs.Option.{option_map}
 use Rattle.std.proofs.Math.Seq.{drop-cons}
 use Rattle.std.proofs.lemmas.List.{take_more, take_all, length_push, map-append, reverse-append}
-use mathlib.Core.Logic.{inl, inr}
-use Rattle.ledger_strategy.proofs.PartsLemmas.{slice_get_push_cases}
+use Rattle.ledger_strategy.specs.Parts.{AreResults}
 use Rattle.std.proofs.lemmas.Option.{get_or_from_slice_get}
 use Rattle.std.specs.Result.{OnOk, is_err}
 use Rattle.std.proofs.lemmas.List.Elements.{All-from_recursion, All-head, All-tail, All-push}
@@ -22,7 +21,7 @@ use Rattle.ledger_transfers.specs.Touches.{total_of, max_amount, no_total}
 use Rattle.ledger_transfers.specs.Settling.{Settles, SettlesTo, opened, folded, SameSlot, slot_of}
 use Rattle.ledger_transfers.specs.Taking.{IsHeld, kept}
 use Rattle.ledger_transfers.specs.Selecting.{StandsFor, opened_at}
-use Rattle.ledger_transfers.specs.Registering.{registered, fresh, IsSelection, AreAmounts}
+use Rattle.ledger_transfers.specs.Registering.{registered, fresh, IsSelection, IsKeySlot, AreSettled, AreAmounts}
 use Rattle.ledger_transfers.proofs.TotalLemmas.{total_by-none}
 use Rattle.ledger_transfers.proofs.AccountLemmas.{outcome_trans}
 use Rattle.ledger_transfers.proofs.SettleLemmas.{settles_to}
@@ -210,21 +209,19 @@ module _ {A E K : Type 0} (eq : K → K → Bool) (laws : IsEquivalence eq) (sam
   key_place keys es i k e l s at there =
       Some_injective e.0 k (sym (key_at es i e there) ∙ ap (λ ks. slice_get ks i) (s.front ∙ take_all (length es) keys (omega (arith, l))) ∙ at)
 
-  -- one slot more
-  pub slot_push : (keys : List K) (es : List (K × Held A)) (slots : List (Slot A)) (slot : Slot A) (e : K × Held A) (ts : List (K × Change E)) → StandsFor eq same rules es ts → length es ≡ length keys → IsSelection eq keys es
-      → slice_get es (length slots) ≡ Some e → lookup (eq e.0) es ≡ Some e.1 → ((total : Totals E) → IsHeld same rules e.1.read e.1.sums total → Settles rules (opened rules e.1.read) total → SettlesTo same rules (opened rules e.1.read) total slot)
-      → ((i : ℕ) (k : K) (s : Slot A) → slice_get keys i ≡ Some k → slice_get slots i ≡ Some s → SettlesTo same rules (opened_at eq same rules es k) (total_of eq ts k) s)
-      → (i : ℕ) (k : K) (s : Slot A) → slice_get keys i ≡ Some k → slice_get (slots ++ slot ∷ []) i ≡ Some s → SettlesTo same rules (opened_at eq same rules es k) (total_of eq ts k) s
-  slot_push keys es slots slot e ts stands l sel there value settles before i k s at got =
-      elim (slice_get_push_cases slots slot s i got) [
-        | inl old ↦ before i k s at old
-        | inr new ↦
-            let key : e.0 ≡ k = key_place keys es i k e l sel at (ap (slice_get es) new.0 ∙ there) in
-            let found : lookup (eq k) es ≡ Some e.1 = sym (ap (λ q. lookup (eq q) es) key) ∙ value in
-            subst (λ x. SettlesTo same rules (opened_at eq same rules es k) (total_of eq ts k) x) new.1
-            (subst (λ o. SettlesTo same rules (opened rules (option_and_then (λ (x : Held A). x.read) o)) (total_of eq ts k) slot) (sym found)
-            (settles (total_of eq ts k) (stands.each k e.1 found) (settles_registered eq laws same equiv rules es ts k e.1 stands found)))
-      ]
+  -- the slot of the key at a place
+  pub key_slot : (keys : List K) (es : List (K × Held A)) (i : ℕ) (e : K × Held A) (slot : Slot A) → length es ≡ length keys → IsSelection eq keys es → slice_get es i ≡ Some e → lookup (eq e.0) es ≡ Some e.1
+      → ((total : Totals E) → IsHeld same rules e.1.read e.1.sums total → Settles rules (opened rules e.1.read) total → SettlesTo same rules (opened rules e.1.read) total slot) → IsKeySlot eq same rules keys es i slot
+  key_slot keys es i e slot l sel there value settles ts stands k at =
+      let key : e.0 ≡ k = key_place keys es i k e l sel at there in
+      let found : lookup (eq k) es ≡ Some e.1 = sym (ap (λ q. lookup (eq q) es) key) ∙ value in
+      subst (λ o. SettlesTo same rules (opened rules (option_and_then (λ (x : Held A). x.read) o)) (total_of eq ts k) slot) (sym found)
+      (settles (total_of eq ts k) (stands.each k e.1 found) (settles_registered eq laws same equiv rules es ts k e.1 stands found))
+
+  -- the slots of all places
+  pub settled_of_places : (keys : List K) (es : List (K × Held A)) (slots : List (Slot A)) → AreResults (IsKeySlot eq same rules keys es) (length keys) slots
+      → (ts : List (K × Change E)) → StandsFor eq same rules es ts → AreSettled eq same rules keys (opened_at eq same rules es) ts slots
+  settled_of_places keys es slots are ts stands = record { all = are.all; each = λ i k slot at got. are.each i slot got ts stands k at }
 
 module _ {A E K : Type 0} (eq : K → K → Bool) (same : A → A → Bool) (rules : Rules A E) where
   -- no keys stand for no touches

@@ -5,14 +5,12 @@ use Rattle.std.specs.Option.{option_map}
 use Rattle.std.specs.Cmp.{IsEquivalence}
 use Rattle.ledger_transfers.specs.Rules.{Rules, AccountLaws, SameOutcome}
 use Rattle.ledger_transfers.specs.Touches.{max_amount}
-use Rattle.ledger_transfers.specs.Settling.{folded, final_balance, Settles, SettlesTo, SameSlot, slot_of, SlotsStand, opened, KeyFails, PlanFails}
+use Rattle.ledger_transfers.specs.Settling.{folded, final_balance, Settles, SettlesTo, SameSlot, slot_of, opened, KeyFails, PlanFails}
 use Rattle.ledger_transfers.specs.declared.fault.PlanFault.{PlanFault}
 use Rattle.ledger_transfers.specs.declared.fault.PlanFault.TheVariants.{Rejected, OutOfMemory}
 use Rattle.ledger_transfers.specs.declared.slot.Slot.{Slot}
 use Rattle.ledger_transfers.specs.declared.slot.Slot.TheVariants.{Keep, Delete, Put}
 use Rattle.ledger_transfers.specs.declared.totals.Totals.{Totals}
-use mathlib.Core.Logic.{inl, inr}
-use Rattle.ledger_strategy.proofs.PartsLemmas.{slice_get_push_cases}
 use Rattle.ledger_transfers.proofs.AccountLemmas.{outcome_trans, same_trans, folded_alike}
 
 Some_injective : {X : Type 0} (x y : X) → Some x ≡ Some y → x ≡ y
@@ -105,22 +103,6 @@ module _ {A E : Type 0} (same : A → A → Bool) (equiv : IsEquivalence same) (
             slot_is = subst (λ r. MatchOption (option_map (λ x. rules.with_balance x (final_balance rules b total)) r) ⊥ (λ e. SameSlot same slot (slot_of same rules b e))) (sym f)
                 (slot_alike a b (rules.with_balance x (final_balance rules a total)) (rules.with_balance y (final_balance rules b total)) slot k ends t);
           }
-
-module _ {A E K : Type 0} (same : A → A → Bool) (rules : Rules A E) where
-  -- one slot more
-  pub SlotsStand-push : (plan : List (K × Totals E)) (reads : List (Option A)) (slots : List (Slot A)) (entry : K × Totals E) (read : Option A) (slot : Slot A)
-      → SlotsStand same rules plan reads slots → slice_get plan (length slots) ≡ Some entry → slice_get reads (length slots) ≡ Some read → SettlesTo same rules (opened rules read) entry.1 slot
-      → SlotsStand same rules plan reads (slots ++ slot ∷ [])
-  SlotsStand-push plan reads slots entry read slot h at reads_at s i e r t p q u =
-      elim (slice_get_push_cases slots slot t i u) [
-        | inl old ↦ h i e r t p q old
-        | inr new ↦
-            let entry_is : entry ≡ e = Some_injective entry e (sym at ∙ ap (slice_get plan) (sym new.0) ∙ p) in
-            let read_is : read ≡ r = Some_injective read r (sym reads_at ∙ ap (slice_get reads) (sym new.0) ∙ q) in
-            subst (λ x. SettlesTo same rules (opened rules r) e.1 x) new.1
-            (subst (λ x. SettlesTo same rules (opened rules x) e.1 slot) read_is
-            (subst (λ (x : K × Totals E). SettlesTo same rules (opened rules read) x.1 slot) entry_is s))
-      ]
 
 module _ {A E K : Type 0} (rules : Rules A E) where
   -- the fault of a key is a fault of the plan

@@ -6,6 +6,7 @@ use Rattle.indexmap.specs.IndexSet.{insert_all}
 use Rattle.ledger_transfers.specs.Rules.{Rules}
 use Rattle.ledger_transfers.specs.Touches.{total_of, max_amount}
 use Rattle.ledger_transfers.specs.Settling.{opened, SettlesTo}
+use Rattle.ledger_transfers.specs.Selecting.{StandsFor, opened_at}
 use Rattle.ledger_transfers.specs.declared.change.Change.{Change}
 use Rattle.ledger_transfers.specs.declared.slot.Slot.{Slot}
 use Rattle.ledger_transfers.specs.declared.held.Held.{Held}
@@ -36,3 +37,8 @@ module _ {A E K : Type 0} (eq : K → K → Bool) (same : A → A → Bool) (rul
   pub record AreSettled (keys : List K) (opened_at : K → A) (ts : List (K × Change E)) (slots : List (Slot A)) : Type 0 where
     pub all : length slots ≡ length keys
     pub each : (i : ℕ) (k : K) (slot : Slot A) → slice_get keys i ≡ Some k → slice_get slots i ≡ Some slot → SettlesTo same rules (opened_at k) (total_of eq ts k) slot
+
+module _ {A E K : Type 0} (eq : K → K → Bool) (same : A → A → Bool) (rules : Rules A E) where
+  -- the slot is that of the key at a place, in each batch that the selection stands for
+  abbrev pub IsKeySlot : List K → List (K × Held A) → ℕ → Slot A → Type 0
+  IsKeySlot keys entries i slot = (ts : List (K × Change E)) → StandsFor eq same rules entries ts → (k : K) → slice_get keys i ≡ Some k → SettlesTo same rules (opened_at eq same rules entries k) (total_of eq ts k) slot

@@ -60,6 +60,10 @@ module _ {A E : Type 0} (same : A → A → Bool) (rules : Rules A E) where
     pub settles : Settles rules a total
     pub slot_is : MatchOption (after rules a total) ⊥ (λ e. SameSlot same slot (slot_of a e))
 
+  -- the slot is that of the key and the read at a place
+  abbrev pub IsSlotAt : {K : Type 0} → List (K × Totals E) → List (Option A) → ℕ → Slot A → Type 0
+  IsSlotAt {K} plan reads i slot = (entry : K × Totals E) (read : Option A) → slice_get plan i ≡ Some entry → slice_get reads i ≡ Some read → SettlesTo (opened rules read) entry.1 slot
+
   -- each slot is that of the key and the read at its place
   abbrev pub SlotsStand : {K : Type 0} → List (K × Totals E) → List (Option A) → List (Slot A) → Type 0
   SlotsStand {K} plan reads slots = (i : ℕ) (entry : K × Totals E) (read : Option A) (slot : Slot A) → slice_get plan i ≡ Some entry → slice_get reads i ≡ Some read → slice_get slots i ≡ Some slot

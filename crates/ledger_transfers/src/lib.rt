@@ -30,6 +30,7 @@ mod selection;
 mod sequenced;
 mod settle;
 mod slot;
+mod slots;
 mod taken;
 mod totals;
 mod transfer;

@@ -13,8 +13,8 @@ use crate::account::Account;
 use crate::change::Change;
 use crate::fault::PlanFault;
 use crate::seeded::{Seeded, fresh_seed};
-use crate::settle::settle_key;
 use crate::slot::Slot;
+use crate::slots::{LEAST, parts_for, settle_all};
 use crate::totals::Totals;
 use crate::transfer::{Transfer, touches_of};
 use indexmap::IndexMap;
@@ -31,6 +31,8 @@ use std::thread::Threads;
 #[derive(Drop)]
 pub struct Plan<K: Copy + Eq + Hash, A: Account> {
     table: IndexMap<K, Totals<A::Effect>, Seeded>,
+    /// How many transfers the batch has, by which settling is cut.
+    transfers: usize,
     of: PhantomData<A>,
 }
 
@@ -84,27 +86,6 @@ fn gather<K: Copy + Eq + Hash, E: Copy>(
     Ok(table)
 }
 
-/// One slot per key, over one read per key.
-fn settle_all<K: Copy + Eq + Hash, A: Account>(
-    alloc: Global,
-    table: &IndexMap<K, Totals<A::Effect>, Seeded>,
-    reads: &[Option<A>],
-) -> Result<Vec<Slot<A>>, PlanFault<K>>
-    requires { length reads.now ≡ index_map_len table.now }
-    ensures settled { IfOk result (λ slots. AreSlots A.eq A.rules table.now.entries reads.now slots.items) }
-    ensures fails { IfErr result (PlanFails A.rules table.now.entries reads.now) }
-{
-    let mut slots = Vec::new(alloc);
-    for (i, read) in reads.iter().enumerate() {
-        let Some((key, total)) = table.get_index(i) else {
-            unreachable!();
-        };
-        let slot = settle_key(alloc, *key, read, total)?;
-        slots.push(slot)?;
-    }
-    Ok(slots)
-}
-
 impl<K: Copy + Eq + Hash, A: Account> Plan<K, A> {
     /// What a batch does to each key that it touches, in a table that hashes with a fresh seed. A rejection is `Insufficient` where a key's
     /// debits alone are above `u64::MAX`, and `Overflow` where its credits are; which such key is named is open. The work is linear in
@@ -138,6 +119,7 @@ impl<K: Copy + Eq + Hash, A: Account> Plan<K, A> {
         let table = gather(alloc, seed, &all)?;
         Ok(Plan {
             table,
+            transfers: transfers.len(),
             of: PhantomData,
         })
     }
@@ -165,20 +147,23 @@ impl<K: Copy + Eq + Hash, A: Account> Plan<K, A> {
 
     /// One slot per key in the order of `keys`, over one read per key; a missing one is the default account. A rejection names a key by its
     /// first reason of: an effect is refused, the debits are above the opening balance, the final balance is above `u64::MAX`. Which
-    /// such key is named is open. The work is linear in the keys and effects.
+    /// such key is named is open. The keys are cut into parts that `strategy` runs. The work is linear in the keys and effects.
     pub fn settle<R: Threads + Sync, S: Strategy>(
         &self,
-        _rt: &R,
+        rt: &R,
         alloc: Global,
         reads: &[Option<A>],
-        _strategy: &S,
+        strategy: &S,
     ) -> Result<Vec<Slot<A>>, PlanFault<K>>
+    where
+        K: Send + Sync,
         requires { length reads.now ≡ length self.now }
         ensures settled { IfOk result (λ slots. AreSlots A.eq A.rules self.now reads.now slots.items) }
         ensures fails { IfErr result (PlanFails A.rules self.now reads.now) }
         ensures batch { IfOk result (λ slots. (ts : _) → IsPlanOf K.eq ts self.now → BatchSettles K.eq A.rules A.eq (keys_of self.now) (opened_by K.eq A.rules (keys_of self.now) reads.now) ts slots.items) }
         ensures offends { IfErr result (λ fault. (ts : _) → IsPlanOf K.eq ts self.now → BatchFails K.eq A.rules (opened_by K.eq A.rules (keys_of self.now) reads.now) ts fault) }
     {
-        settle_all(alloc, &self.table, reads)
+        let parts = parts_for(strategy, self.transfers, LEAST);
+        settle_all(rt, alloc, strategy, parts, &self.table, reads)
     }
 }

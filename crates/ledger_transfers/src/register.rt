@@ -8,7 +8,8 @@ ghost use Rattle.ledger_transfers.specs.Settling.{opened, SettlesTo, Settles};
 ghost use Rattle.ledger_transfers.specs.Taking.{IsHeld};
 ghost use Rattle.ledger_transfers.specs.Touches.{max_amount};
 ghost use Rattle.ledger_transfers.specs.Selecting.{StandsFor, opened_at};
-ghost use Rattle.ledger_transfers.specs.Registering.{touched, fresh, registered, AreAmounts, AreSettled, IsSelection};
+ghost use Rattle.ledger_transfers.specs.Registering.{touched, fresh, registered, AreAmounts, AreSettled, IsKeySlot, IsSelection};
+ghost use Rattle.ledger_strategy.specs.Parts.{AreResultsFrom, start_of};
 
 use crate::account::Account;
 use crate::change::Change;
@@ -18,8 +19,10 @@ use crate::settle::{opening, slot};
 use crate::slot::Slot;
 use indexmap::{IndexMap, IndexSet};
 use ledger_codec::OutOfMemory;
+use ledger_strategy::{Strategy, joined, row_of};
 use std::alloc::Global;
 use std::hash::Hash;
+use std::thread::Threads;
 
 /// Takes up a key, and notes its place, unless memory is wanting for that.
 fn touch_key<K: Copy + Eq + Hash>(
@@ -133,23 +136,76 @@ fn settle_held<A: Account>(alloc: Global, held: &Held<A>) -> Result<Slot<A>, Out
     Ok(slot(before, account))
 }
 
-/// One slot per registered key.
-pub(crate) fn settle_all<K: Copy + Eq + Hash, A: Account>(
+/// The slot of the registered key at a place.
+fn settle_at<K: Copy + Eq + Hash, A: Account>(
     alloc: Global,
     keys: &[K],
     table: &IndexMap<K, Held<A>, Seeded>,
+    place: usize,
+) -> Result<Slot<A>, OutOfMemory>
+    requires all { length table.now.entries ≡ length keys.now }
+    requires selection { IsSelection K.eq keys.now table.now.entries }
+    requires within { place < length keys.now }
+    ensures { IfOk result (IsKeySlot K.eq A.eq A.rules keys.now table.now.entries place) }
+{
+    let Some((_, held)) = table.get_index(place) else {
+        unreachable!();
+    };
+    settle_held(alloc, held)
+}
+
+/// The slots of the keys from one place on and up to another.
+fn settle_row<K: Copy + Eq + Hash, A: Account>(
+    alloc: Global,
+    keys: &[K],
+    table: &IndexMap<K, Held<A>, Seeded>,
+    from: usize,
+    upto: usize,
 ) -> Result<Vec<Slot<A>>, OutOfMemory>
+    requires all { length table.now.entries ≡ length keys.now }
+    requires selection { IsSelection K.eq keys.now table.now.entries }
+    requires order { from ≤ upto }
+    requires within { upto ≤ length keys.now }
+    ensures { IfOk result (λ slots. AreResultsFrom (IsKeySlot K.eq A.eq A.rules keys.now table.now.entries) from upto slots.items) }
+{
+    let mut slots = Vec::with_capacity(alloc, upto - from)?;
+    for place in from..upto {
+        let slot = settle_at(alloc, keys, table, place)?;
+        slots.push(slot)?;
+    }
+    Ok(slots)
+}
+
+/// One slot per registered key, worked out in so many parts.
+pub(crate) fn settle_all<
+    R: Threads + Sync,
+    S: Strategy,
+    K: Copy + Eq + Hash + Send + Sync,
+    A: Account,
+>(
+    rt: &R,
+    alloc: Global,
+    strategy: &S,
+    parts: usize,
+    keys: &[K],
+    table: &IndexMap<K, Held<A>, Seeded>,
+) -> Result<Vec<Slot<A>>, OutOfMemory>
+    requires some { 0 < parts }
     requires all { length table.now.entries ≡ length keys.now }
     requires selection { IsSelection K.eq keys.now table.now.entries }
     ensures { IfOk result (λ slots. (ts : _) → StandsFor K.eq A.eq A.rules table.now.entries ts → AreSettled K.eq A.eq A.rules keys.now (opened_at K.eq A.eq A.rules table.now.entries) ts slots.items) }
 {
-    let mut slots = Vec::new(alloc);
-    for i in 0..keys.len() {
-        let Some((_, held)) = table.get_index(i) else {
-            unreachable!();
-        };
-        let slot = settle_held(alloc, held)?;
-        slots.push(slot)?;
-    }
-    Ok(slots)
+    let rows = strategy.map_parts(
+        rt,
+        alloc,
+        parts,
+        |part: usize| -> Result<Vec<Slot<A>>, OutOfMemory>
+            requires { (0 < parts) × (length table.now.entries ≡ length keys.now) × IsSelection K.eq keys.now table.now.entries }
+            ensures { IfOk result (λ slots. AreResultsFrom (IsKeySlot K.eq A.eq A.rules keys.entry.now table.entry.now.entries) (start_of part parts (length keys.entry.now)) (start_of (part + 1) parts (length keys.entry.now)) slots.items) }
+        {
+            let row = row_of(part, parts, keys.len());
+            settle_row(alloc, keys, table, row.start, row.end)
+        },
+    )?;
+    joined(alloc, rows)
 }

@@ -13,6 +13,7 @@ use crate::held::Held;
 use crate::register::{are_registered, register_all, settle_all, touch_keys};
 use crate::seeded::{Seeded, fresh_seed};
 use crate::slot::Slot;
+use crate::slots::{LEAST, parts_for};
 use crate::taken::decide_all;
 use crate::transfer::{Transfer, touches_of};
 use indexmap::{IndexMap, IndexSet};
@@ -161,17 +162,28 @@ impl<K: Copy + Eq + Hash, A: Account> Selection<K, A> {
         }
     }
 
-    /// One slot per key in the order of `keys`, of the taken transfers as one batch. After a refusal the selection is gone.
+    /// One slot per key in the order of `keys`, of the taken transfers as one batch. The keys are cut into parts that
+    /// `strategy` runs. After a refusal the selection is gone.
     pub fn settle<R: Threads + Sync, S: Strategy>(
         self,
-        _rt: &R,
+        rt: &R,
         alloc: Global,
-        _strategy: &S,
+        strategy: &S,
     ) -> Result<Vec<Slot<A>>, OutOfMemory>
+    where
+        K: Send + Sync,
         requires { length self.1 ≡ length self.0 }
         ensures planned { IfOk result (λ slots. (ts : _) → StandsFor K.eq A.eq A.rules self.1 ts → AgreesWithPlans K.eq A.eq A.rules self.0 (opened_at K.eq A.eq A.rules self.1) ts slots.items) }
         ensures slots { IfOk result (λ slots. (ts : _) → StandsFor K.eq A.eq A.rules self.1 ts → AreSettled K.eq A.eq A.rules self.0 (opened_at K.eq A.eq A.rules self.1) ts slots.items) }
     {
-        settle_all(alloc, self.keys.as_slice(), &self.table)
+        let parts = parts_for(strategy, self.keys.len(), LEAST);
+        settle_all(
+            rt,
+            alloc,
+            strategy,
+            parts,
+            self.keys.as_slice(),
+            &self.table,
+        )
     }
 }

@@ -15,6 +15,7 @@ use Rattle.ledger_transfers.proofs.plan.Plan.settle.Goals as goal
 pub returns-clause-batch : goal.returns-clause-batch
 returns-clause-batch g c =
     let eq = g.K.PartialEq.eq in
+    let key_laws = g.met.K.Eq g.world.𝓛 g.world.𝓜 g.world.𝓡 ((λ s x. x), (λ x. x), (λ x. x), λ x. x) in
     let same = g.A.PartialEq.eq in
     let rules = g.A.Account.rules in
     let plan = c.args.self.now in
@@ -23,11 +24,12 @@ returns-clause-batch g c =
     let P = λ (es : List (g.row.K.Denot × Totals g.row.A-Effect.Denot)) (slots : Vec (Slot g.row.A.Denot) Global). AreSlots same rules es reads slots.items in
     let Q = λ (slots : Vec (Slot g.row.A.Denot) Global). (ts : List (g.row.K.Denot × Change g.row.A-Effect.Denot)) → IsPlanOf eq ts plan → BatchSettles eq rules same (keys_of plan) (opened_by eq rules (keys_of plan) reads) ts slots.items in
     let settled : IfOk c.settle_all.result (P plan) = subst (λ es. IfOk c.settle_all.result (P es)) view c.settle_all.ensures.settled in
-    IfOk-weaker c.settle_all.result (P plan) Q (λ slots h ts is. batch_settles eq g.met.K.Eq.laws same rules ts plan reads is c.requires slots.items h) settled
+    IfOk-weaker c.settle_all.result (P plan) Q (λ slots h ts is. batch_settles eq key_laws.laws same rules ts plan reads is c.requires slots.items h) settled
 
 pub returns-clause-offends : goal.returns-clause-offends
 returns-clause-offends g c =
     let eq = g.K.PartialEq.eq in
+    let key_laws = g.met.K.Eq g.world.𝓛 g.world.𝓜 g.world.𝓡 ((λ s x. x), (λ x. x), (λ x. x), λ x. x) in
     let rules = g.A.Account.rules in
     let plan = c.args.self.now in
     let reads = c.args.reads.now in
@@ -35,4 +37,4 @@ returns-clause-offends g c =
     let P = λ (es : List (g.row.K.Denot × Totals g.row.A-Effect.Denot)) (fault : PlanFault g.row.K.Denot). PlanFails rules es reads fault in
     let Q = λ (fault : PlanFault g.row.K.Denot). (ts : List (g.row.K.Denot × Change g.row.A-Effect.Denot)) → IsPlanOf eq ts plan → BatchFails eq rules (opened_by eq rules (keys_of plan) reads) ts fault in
     let fails : IfErr c.settle_all.result (P plan) = subst (λ es. IfErr c.settle_all.result (P es)) view c.settle_all.ensures.fails in
-    IfErr-weaker c.settle_all.result (P plan) Q (λ fault f ts is. batch_fails eq g.met.K.Eq.laws g.A.PartialEq.eq rules ts plan reads is c.requires fault f) fails
+    IfErr-weaker c.settle_all.result (P plan) Q (λ fault f ts is. batch_fails eq key_laws.laws g.A.PartialEq.eq rules ts plan reads is c.requires fault f) fails

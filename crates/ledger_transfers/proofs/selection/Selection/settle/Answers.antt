@@ -28,6 +28,7 @@ pub returns-clause-planned : goal.returns-clause-planned
 returns-clause-planned g c =
     let view : (c.self.inside.keys.keys, c.self.inside.table.entries) ≡ c.args.self = c.self.view_is in
     let eq = g.K.PartialEq.eq in
+    let key_laws = g.met.K.Eq g.world.𝓛 g.world.𝓜 g.world.𝓡 ((λ s x. x), (λ x. x), (λ x. x), λ x. x) in
     let same = g.A.PartialEq.eq in
     let rules = g.A.Account.rules in
     let same_laws = g.met.A.Eq g.world.𝓛 g.world.𝓜 g.world.𝓡 ((λ s x. x), (λ x. x), (λ x. x), λ x. x) in
@@ -36,4 +37,4 @@ returns-clause-planned g c =
     IfOk c.settle_all.result (λ slots. (ts : List (g.row.K.Denot × Change g.row.A-Effect.Denot)) → StandsFor eq same rules v.1 ts → AreSettled eq same rules v.0 (opened_at eq same rules v.1) ts slots.items) in
     let at : P (c.as_slice.result.now, c.self.inside.table.entries) = c.settle_all.ensures in
     let here : P c.args.self = subst P view (subst (λ (ks : List g.row.K.Denot). P (ks, c.self.inside.table.entries)) c.as_slice.ensures.keys at) in
-    IfOk-weaker c.settle_all.result _ _ (λ slots h ts stands. selection_agrees eq g.met.K.Eq.laws same same_laws.laws rules account.laws c.args.self.0 c.args.self.1 ts slots.items stands (h ts stands)) here
+    IfOk-weaker c.settle_all.result _ _ (λ slots h ts stands. selection_agrees eq key_laws.laws same same_laws.laws rules account.laws c.args.self.0 c.args.self.1 ts slots.items stands (h ts stands)) here
