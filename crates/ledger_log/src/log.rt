@@ -307,6 +307,12 @@ impl<F: Family, H: Hasher> Log<F, H> {
         Ok(())
     }
 
+    /// How many keys the index has.
+    #[cfg(test)]
+    pub(crate) fn entry_count(&self) -> usize {
+        self.index.len()
+    }
+
     /// An equal log. Refused for want of memory alone.
     pub fn copy(&self) -> Result<Log<F, H>, LogFault>
         ensures may { IsOkUnless result LogFault.OutOfMemory }
@@ -369,7 +375,8 @@ fn floor_behind<F: Family>(start: Location, ops: &[F::Op]) -> Result<Location, L
 
 /// The floor of the last operation, None where it isn't the one commit.
 fn floor_of_batch<F: Family>(ops: &[F::Op]) -> Option<Location>
-    ensures { result ≡ batch_floor F.floor_of ops.now }
+    ensures floor { result ≡ batch_floor F.floor_of ops.now }
+    ensures most { IfSome result (λ f. f ≤ 2 ^ 62) }
 {
     let (last, others) = ops.split_last()?;
     for op in others {

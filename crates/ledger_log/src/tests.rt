@@ -1,8 +1,8 @@
 //! Worked examples. The expected roots are those of ledger_merkle's vectors/roots.py.
-ghost use Rattle.std.specs.Prelude.{◌≡◌, ◌<◌, ◌≤◌, ◌^◌, [], IfOk, length, map};
+ghost use Rattle.std.specs.Prelude.{◌≡◌, ◌<◌, ◌≤◌, ◌^◌, [], IfOk, OnOk, length, map};
 ghost use Rattle.ledger_merkle.specs.Leaves.{leaves_from};
 ghost use Rattle.ledger_log.specs.Any.{any_spelling};
-ghost use Rattle.ledger_log.specs.View.{log_size};
+ghost use Rattle.ledger_log.specs.View.{log_size, log_peaks_at};
 
 use crate::{
     AnyFamily, AnyOp, ImmutableFamily, ImmutableOp, KeylessFamily, KeylessOp, Log, LogFault,
@@ -172,6 +172,60 @@ fn keeps_the_last_value_of_a_key(rt: HostRuntime) -> Result<(), LogFault> {
     log.append_batch(&[commit(6)])?;
     log.prune(at(6))?;
     assert_eq!(rt; log.get(&b), None);
+    Ok(())
+}
+
+#[test]
+fn forgets_the_keys_below_its_front(rt: HostRuntime) -> Result<(), LogFault> {
+    let (a, b) = ([1; 32], [2; 32]);
+    let mut log = AnyLog::fresh(rt.alloc())?;
+    log.append_batch(&[AnyOp::Update(a, a), AnyOp::Update(b, a), commit(2)])?;
+    assert_eq!(rt; log.entry_count(), 2);
+    log.prune(at(2))?;
+    assert_eq!(rt; log.entry_count(), 1);
+    log.append_batch(&[AnyOp::Update(b, b), AnyOp::Delete(a), commit(4)])?;
+    log.prune(at(4))?;
+    assert_eq!(rt; log.entry_count(), 2);
+    log.append_batch(&[commit(7)])?;
+    log.prune(at(7))?;
+    assert_eq!(rt; log.entry_count(), 0);
+    Ok(())
+}
+
+/// Batches, one behind the other: the second one alone, with the first and with one that has no commit.
+#[test]
+fn takes_batches_together(rt: HostRuntime) -> Result<(), LogFault> {
+    let alloc = rt.alloc();
+    let more = [AnyOp::Delete([1; 32]), commit(1), commit(2)];
+    let mut log = AnyLog::fresh(alloc)?;
+    assert_eq!(rt; log.append_batches(&more[..1]), Err(LogFault::NotABatch));
+    assert_eq!(rt; log.append_batches(&more), Ok(()));
+    let ops = [commit(0), more[0], more[1], more[2]];
+    assert!(rt; alike(&log, &log_of(alloc, &ops)?));
+    Ok(())
+}
+
+/// Drops what is below a place: the pinned nodes from there on stay.
+fn drop_below<H: Hasher>(
+    log: &mut Log<AnyFamily, H>,
+    loc: Location,
+    place: Location,
+) -> Result<(), LogFault>
+    requires front { log.old.front ≤ loc }
+    requires above { loc ≤ place }
+    requires within { place ≤ log_size log.old }
+    ensures { OnOk result (log_peaks_at H.digest any_spelling log.new place ≡ log_peaks_at H.digest any_spelling log.old place) }
+{
+    log.prune(loc)?;
+    Ok(())
+}
+
+#[test]
+fn keeps_its_nodes(rt: HostRuntime) -> Result<(), LogFault> {
+    let mut log = log_of(rt.alloc(), &[commit(0), commit(1), commit(1)])?;
+    let nodes = log.pinned_nodes_at(at(2))?;
+    drop_below(&mut log, at(1), at(2))?;
+    assert!(rt; log.pinned_nodes_at(at(2))? == nodes);
     Ok(())
 }
 

@@ -1,10 +1,11 @@
 //! Worked examples. The expected roots are those of vectors/roots.py.
-ghost use Rattle.std.specs.Prelude.{◌≡◌, ◌≤◌, ◌^◌, [], IfOk, length, vec_len};
-ghost use Rattle.ledger_merkle.specs.Leaves.{list_size};
+ghost use Rattle.std.specs.Prelude.{◌≡◌, ◌≤◌, ◌^◌, [], IfOk, OnOk, length, vec_len};
+ghost use Rattle.ledger_merkle.specs.Leaves.{list_size, peaks_at};
+ghost use Rattle.ledger_merkle.specs.Levels.{proof_digests};
 
 use crate::{
-    Location, MerkleList, Peaks, Proof, RangeFault, Sha256Hasher, check_range, hash_item,
-    plain_digests,
+    Hasher, Location, MerkleList, Peaks, Proof, RangeFault, Retained, Sha256Hasher, check_range,
+    hash_item, plain_digests,
 };
 use ledger_codec::{Digest, List, OutOfMemory};
 use std::alloc::Global;
@@ -167,6 +168,43 @@ fn refuses_other_proofs(rt: HostRuntime) -> Result<(), OutOfMemory> {
             })
         )
     );
+    Ok(())
+}
+
+/// Drops the first five of twelve leaves: the proof of the next three and the peaks of seven stay.
+fn drop_five<H: Hasher>(list: &mut MerkleList<H>) -> Result<(), OutOfMemory>
+    requires front { list.old.front ≡ 0 }
+    requires size { list_size list.old ≡ 12 }
+    ensures proof { OnOk result (proof_digests H.digest list.new 12 5 3 ≡ proof_digests H.digest list.old 12 5 3) }
+    ensures peaks { OnOk result (peaks_at H.digest list.new 7 ≡ peaks_at H.digest list.old 7) }
+{
+    list.prune(at(5))?;
+    Ok(())
+}
+
+#[test]
+fn drops_and_keeps_the_rest(rt: HostRuntime) -> Result<(), OutOfMemory> {
+    let mut list = twelve(rt.alloc())?;
+    let root = list.root();
+    drop_five(&mut list)?;
+    assert_eq!(rt; list.front().get(), 5);
+    assert_eq!(rt; list.root(), root);
+    Ok(())
+}
+
+#[test]
+fn retains_what_is_not_dropped(rt: HostRuntime) -> Result<(), OutOfMemory> {
+    let alloc = rt.alloc();
+    let mut kept = Retained::from_vec(alloc, Vec::from_slice(alloc, &[0_u32, 1, 2, 3])?);
+    for (count, want) in [(1, 3), (0, 3), (2, 1), (9, 0)] {
+        kept.skip(count);
+        assert_eq!(rt; kept.len(), want);
+    }
+    kept.extend_from_slice(&[4, 5, 6])?;
+    kept.skip(1);
+    kept.truncate(1);
+    kept.push(7)?;
+    assert!(rt; kept.copy()?.as_slice() == [5, 7].as_slice());
     Ok(())
 }
 

@@ -10,6 +10,6 @@ returns-clause-refusal g c =
     let f = g.F.Family.floor_of in
     let log = c.args.self.now in
     let ops = c.args.ops.now in
-    let batch : batch_floor f ops ≡ Some c.in-Some._floor = sym c.in-Some.ensures in
+    let batch : batch_floor f ops ≡ Some c.in-Some._floor = sym c.in-Some.ensures.floor in
     let same : last_floor f ops ≡ batch_floor f ops = last_of_batch f ops c.in-Some._floor batch ∙ sym batch in
     subst (λ z. MatchOption (batch_refusal (log_size log) (log_floor f log) (length ops) z) (IsOkUnless c.append_batches.result OutOfMemory) (λ fault. c.append_batches.result ≡ Err fault)) same c.append_batches.ensures.refusal
