@@ -9,7 +9,7 @@ use Rattle.ledger_job.specs.declared.block.Block.{Block}
 use Rattle.ledger_job.specs.declared.block.Block.TheVariants.{Body as BodyOf, Rounds as RoundsOf}
 use Rattle.ledger_job.specs.declared.line.Line.{Line}
 use Rattle.ledger_job.specs.declared.line.Line.TheVariants.{Skipped, Open, Limits, Body, Rounds, Round, Pay}
-use Rattle.ledger_job.specs.declared.line.JobLimits.{JobLimits}
+use Rattle.ledger_job.specs.Bounds.{LimitsView}
 use Rattle.ledger_job.specs.declared.payment.Payment.{Payment}
 use Rattle.ledger_job.specs.declared.place.Section.{Section}
 use Rattle.ledger_job.specs.declared.place.Section.TheVariants.{Opening, InBody, InRounds, InRound}
@@ -53,7 +53,7 @@ limited_set lines line e = sym (list_any-append is_limits lines (line ∷ []) �
 limits_kept : (lines : List Line) (line : Line) → filter_map limits_in (line ∷ []) ≡ [] → last_or None (filter_map limits_in lines) ≡ last_or None (filter_map limits_in (lines ++ line ∷ []))
 limits_kept lines line e = sym (ap (last_or None) (none_more limits_in lines line e))
 
-limits_set : (lines : List Line) (line : Line) (limits : JobLimits) → filter_map limits_in (line ∷ []) ≡ limits ∷ [] → Some limits ≡ last_or None (filter_map limits_in (lines ++ line ∷ []))
+limits_set : (lines : List Line) (line : Line) (limits : LimitsView) → filter_map limits_in (line ∷ []) ≡ limits ∷ [] → Some limits ≡ last_or None (filter_map limits_in (lines ++ line ∷ []))
 limits_set lines line limits e = sym (ap (last_or None) (one_more limits_in lines line limits e) ∙ last_push None (filter_map limits_in lines) limits)
 
 -- ---- blocks

@@ -2,11 +2,11 @@
 use Rattle.std.specs.Prelude.{◌≡◌, Bool, List, [], ◌∷◌, ◌++◌, Some, None, is_some}
 use Rattle.std.specs.declared.option.Option.{Option}
 use Rattle.std.specs.List.{filter_map, last_or}
+use Rattle.ledger_job.specs.Bounds.{LimitsView}
 use Rattle.ledger_job.specs.Jobs.{section_after, has_limits, open_in, limits_in, payments_of, rounds_of, blocks_of}
 use Rattle.ledger_job.specs.declared.block.Block.{Block}
 use Rattle.ledger_job.specs.declared.block.Block.TheVariants.{Body as BodyOf, Rounds as RoundsOf}
 use Rattle.ledger_job.specs.declared.build.Gathered.{Gathered}
-use Rattle.ledger_job.specs.declared.line.JobLimits.{JobLimits}
 use Rattle.ledger_job.specs.declared.line.Line.{Line}
 use Rattle.ledger_job.specs.declared.line.Line.TheVariants.{Skipped, Open, Limits, Body, Rounds, Round, Pay}
 use Rattle.ledger_job.specs.declared.line.Open.{Open as Opened}
@@ -17,7 +17,7 @@ use Rattle.ledger_job.specs.declared.place.Section.TheVariants.{Opening, InBody,
 -- the accounts and the limits so far, the section, the payments and the rounds of the open block, and the blocks before it
 pub record Seen : Type 0 where
   pub opens : List Opened
-  pub limits : Option JobLimits
+  pub limits : Option LimitsView
   pub section : Section
   pub payments : List Payment
   pub rounds : List (List Payment)

@@ -2,11 +2,11 @@
 use Rattle.std.specs.Prelude.{ℕ, ◌+◌, ◌&&◌, Bool, true, false, not, List, [], ◌∷◌, ◌++◌, Some, None, Result, Ok, Err, map, option_map, unwrap_or, if◌then◌else◌}
 use Rattle.std.specs.declared.option.Option.{Option}
 use Rattle.std.specs.List.{filter_map, last_or, list_any}
+use Rattle.ledger_job.specs.Bounds.{LimitsView}
 use Rattle.ledger_job.specs.Lines.{lines_of, line_of}
 use Rattle.ledger_job.specs.declared.block.Block.{Block}
 use Rattle.ledger_job.specs.declared.block.Block.TheVariants.{Body as BodyOf, Rounds as RoundsOf}
 use Rattle.ledger_job.specs.declared.job.Job.{Job}
-use Rattle.ledger_job.specs.declared.line.JobLimits.{JobLimits}
 use Rattle.ledger_job.specs.declared.line.Line.{Line}
 use Rattle.ledger_job.specs.declared.line.Line.TheVariants.{Skipped, Open, Limits, Body, Rounds, Round, Pay}
 use Rattle.ledger_job.specs.declared.line.Open.{Open as Opened}
@@ -77,12 +77,12 @@ open_in (Open account) = Some account
 open_in _ = None
 
 -- the limits that a line sets
-abbrev pub limits_in : Line → Option JobLimits
+abbrev pub limits_in : Line → Option LimitsView
 limits_in (Limits limits) = Some limits
 limits_in _ = None
 
 -- 50 operations a request, one request at a time
-abbrev pub default_limits : JobLimits
+abbrev pub default_limits : LimitsView
 default_limits = record { batch = 50; outstanding = 1 }
 
 -- the payments up to the next section

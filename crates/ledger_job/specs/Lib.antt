@@ -1,5 +1,6 @@
 pub mod Number
 pub mod Keys
+pub mod Bounds
 pub mod Lines
 pub mod Jobs
 pub mod Gathered

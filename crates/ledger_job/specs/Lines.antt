@@ -1,9 +1,10 @@
 -- The lines of a job, each by itself.
-use Rattle.std.specs.Prelude.{ℕ, ◌-◌, ◌&&◌, ◌==◌, Bool, true, List, [], ◌∷◌, Some, None, length, take, nat_le, nat_lt, slice_index, codes, if◌then◌else◌}
+use Rattle.std.specs.Prelude.{ℕ, ◌-◌, ◌==◌, Bool, true, List, [], ◌∷◌, Some, None, length, take, slice_index, codes, if◌then◌else◌}
 use Rattle.std.specs.declared.option.Option.{Option}
 use Rattle.std.specs.List.{slice_split}
 use Rattle.std.specs.Str.{bytes_eq}
 use Rattle.ledger_job.specs.Number.{number_of}
+use Rattle.ledger_job.specs.Bounds.{in_range}
 use Rattle.ledger_job.specs.Keys.{key_of}
 use Rattle.ledger_job.specs.declared.line.Line.{Line}
 use Rattle.ledger_job.specs.declared.line.Line.TheVariants.{Skipped, Open, Limits, Body, Rounds, Round, Pay}
@@ -32,10 +33,6 @@ one_word word =
     else if bytes_eq word (codes "rounds") then Some Rounds
     else if bytes_eq word (codes "round") then Some Round
     else None
-
--- a batch above 0, and from 1 to 64 requests
-abbrev pub in_range : ℕ → ℕ → Bool
-in_range batch outstanding = nat_lt 0 batch && (nat_lt 0 outstanding && nat_le outstanding 64)
 
 -- limits within their range
 abbrev pub limits_from : Option ℕ → Option ℕ → Option Line

@@ -6,7 +6,8 @@ ghost use Rattle.ledger_job.specs.declared.place.Section.TheVariants.{Opening, I
 
 use crate::block::Block;
 use crate::job::Job;
-use crate::line::{JobLimits, Line, Open};
+use crate::limits::JobLimits;
+use crate::line::{Line, Open};
 use crate::payment::Payment;
 use crate::place::{Section, fits};
 use ledger_codec::{List, OutOfMemory};
@@ -144,10 +145,7 @@ impl Gathered {
         ensures blocks { IfOk result (λ job. job.blocks ≡ all_blocks (seen self)) }
     {
         self.end_block(alloc)?;
-        let limits = self.limits.unwrap_or(JobLimits {
-            batch: 50,
-            outstanding: 1,
-        });
+        let limits = self.limits.unwrap_or(JobLimits::usual());
         Ok(Job {
             opens: List::from_vec(self.opens),
             limits,

@@ -7,7 +7,8 @@ ghost use Rattle.ledger_job.specs.declared.job.JobFault.TheVariants.{BadLine, Ou
 
 use crate::block::Block;
 use crate::build::Gathered;
-use crate::line::{JobLimits, Open, parse_line};
+use crate::limits::JobLimits;
+use crate::line::{Open, parse_line};
 use crate::payment::Payment;
 use crate::split::{all_lines, cut};
 use ledger_codec::List;

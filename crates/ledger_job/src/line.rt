@@ -1,8 +1,9 @@
 //! The lines of a job, read one by one.
 ghost use Rattle.std.specs.Prelude.{◌≡◌};
-ghost use Rattle.ledger_job.specs.Lines.{fields_of, is_skipped, open_from, limits_from, pay_from, in_range, one_word, three_words, four_words, five_words, line_of_fields, line_of};
+ghost use Rattle.ledger_job.specs.Lines.{fields_of, is_skipped, open_from, limits_from, pay_from, one_word, three_words, four_words, five_words, line_of_fields, line_of};
 
 use crate::key::parse_key;
+use crate::limits::JobLimits;
 use crate::number::parse_number;
 use crate::payment::Payment;
 use crate::split::next_part;
@@ -17,15 +18,6 @@ pub struct Open {
     pub balance: u64,
     /// Its next nonce.
     pub nonce: u64,
-}
-
-/// How a log is fetched.
-#[derive(Clone, Copy, Debug, PartialEq, Eq)]
-pub struct JobLimits {
-    /// The most operations that one request asks for; above 0.
-    pub batch: u64,
-    /// How many requests may be out at once; from 1 to 64.
-    pub outstanding: u64,
 }
 
 /// What one line of a job says.
@@ -118,19 +110,8 @@ fn three_words(word: &[u8], batch: &[u8], outstanding: &[u8]) -> Option<Line>
 fn limits_from(batch: Option<u64>, outstanding: Option<u64>) -> Option<Line>
     ensures { result ≡ limits_from batch outstanding }
 {
-    let batch = batch?;
-    let outstanding = outstanding?;
-    if in_range(batch, outstanding) {
-        Some(Line::Limits(JobLimits { batch, outstanding }))
-    } else {
-        None
-    }
-}
-
-fn in_range(batch: u64, outstanding: u64) -> bool
-    ensures { result ≡ in_range batch outstanding }
-{
-    batch > 0 && outstanding > 0 && outstanding <= 64
+    let limits = JobLimits::new(batch?, outstanding?)?;
+    Some(Line::Limits(limits))
 }
 
 fn four_words(word: &[u8], key: &[u8], balance: &[u8], nonce: &[u8]) -> Option<Line>

@@ -48,17 +48,11 @@ fn link_to(alloc: Global, log: Log<AnyFamily, Sha256Hasher>) -> MemoryLink<AnyFa
     MemoryLink::new(alloc, log, order, cuts, failing)
 }
 
-/// How much is asked at once. A job's text keeps its limits in range; the usual ones stand in for others,
-/// and no answer depends on them.
-fn limits_of(limits: JobLimits) -> Limits {
-    match Limits::new(limits.batch, limits.outstanding as usize) {
-        Some(limits) => limits,
-        None => usual_limits(),
-    }
-}
-
-fn usual_limits() -> Limits {
-    match Limits::new(50, 1) {
+/// How much is asked at once.
+fn limits_of(limits: JobLimits) -> Limits
+    ensures { result ≡ record { batch = limits.batch; outstanding = limits.outstanding } }
+{
+    match Limits::new(limits.batch(), limits.outstanding() as usize) {
         Some(limits) => limits,
         None => unreachable!(),
     }
