@@ -1,5 +1,5 @@
 -- The value of a sequenced account.
-use Rattle.std.specs.Prelude.{◌≡◌, ℕ, ◌^◌, ◌<◌, ◌++◌, List, take, drop, replicate, Option, Some, None, if◌then◌else◌, bytes_eq}
+use Rattle.std.specs.Prelude.{ℕ, ◌^◌, ◌<◌, ◌++◌, List, take, drop, replicate, Option, Some, None, if◌then◌else◌, bytes_eq}
 use Rattle.std.specs.Int.{w64, to_be_bytes, from_be_bytes}
 use Rattle.ledger_managed.specs.Values.{Values}
 use Rattle.ledger_transfers.specs.declared.sequenced.Sequenced.{Sequenced}

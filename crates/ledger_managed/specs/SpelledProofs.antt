@@ -1,11 +1,15 @@
 -- That the value of a sequenced account keeps the laws.
-use Rattle.std.proofs.Common.{◌≡◌, ℕ, ◌+◌, ◌*◌, ◌/◌, ◌%◌, ◌^◌, ◌<◌, ◌++◌, zero, suc, [], ◌∷◌, ◌≤◌, lit<, length-append, Bool, true, false, cond, List, length, get_or, take, drop, Option, Some, None, refl, ap, sym, ◌∙◌, subst, arith, append_assoc, length-drop, bytes_eq, ◌&&◌, nat_eq}
+use Rattle.std.proofs.Common.{◌≡◌, ℕ, ◌+◌, ◌*◌, ◌/◌, ◌%◌, ◌^◌, ◌<◌, ◌++◌, zero, suc, [], ◌∷◌, ◌≤◌, lit<, length-append, Bool, true, false, cond, List, length, get_or, take, drop, replicate, Some, None, refl, ap, sym, ◌∙◌, subst, arith, append_assoc, length-drop, bytes_eq, ◌&&◌, nat_eq}
+use Rattle.std.specs.List.{AllByRecursion}
 use Rattle.std.specs.Int.{w64, to_be_bytes, from_be_bytes}
 use Rattle.std.proofs.lemmas.Nat.{from_be_bytes-to_be_bytes_8, be_bytes_8}
 use Rattle.std.specs.Cmp.Lexicographic.{bytes_decides}
 use Rattle.std.proofs.lemmas.List.{take_at, drop_at, get_or-drop, length-take-le, take-append-drop, drop-drop, take_all}
+use Rattle.ledger_transfers.specs.Accounts.{sequenced_rules}
 use Rattle.ledger_transfers.specs.Rules.{SameOutcome}
-use Rattle.ledger_managed.specs.Values.{Values, ValueLaws, IsValue}
+use Rattle.ledger_transfers.specs.Touches.{max_amount}
+use Rattle.ledger_managed.specs.Values.{ValueLaws}
+use Rattle.ledger_log.specs.Spelling.{Is32Bytes}
 use Rattle.ledger_managed.specs.Spelled.{sequenced_values, sequenced_value, read_sequenced, IsSoundSequenced, padding}
 use Rattle.std.proofs.lemmas.Bool.{eqb-true, eq-eqb}
 use Rattle.ledger_transfers.specs.declared.sequenced.Sequenced.{Sequenced}
@@ -73,18 +77,46 @@ bytes_bound n =
     weighed (n % 256) (n / 256 % 256) (n / 65536 % 256) (n / 16777216 % 256) (n / 4294967296 % 256) (n / 1099511627776 % 256) (n / 281474976710656 % 256) (n / 72057594037927936 % 256)
     (last_byte n) (last_byte (n / 256)) (last_byte (n / 65536)) (last_byte (n / 16777216)) (last_byte (n / 4294967296)) (last_byte (n / 1099511627776)) (last_byte (n / 281474976710656)) (last_byte (n / 72057594037927936))
 
--- the value of an account reads as an account, whose balance has 64 bits
-pub value_reads : (a : Sequenced) → (b : Sequenced) × (read_sequenced (sequenced_value a) ≡ Some b) × (b.balance < 2 ^ 64)
+-- the value of an account reads as an account
+pub value_reads : (a : Sequenced) → (b : Sequenced) × (read_sequenced (sequenced_value a) ≡ Some b)
 unfolding sequenced_value read_sequenced
-value_reads a = by (to_be_bytes w64 a.balance) (to_be_bytes w64 a.nonce) refl refl (bytes_bound a.balance)
+value_reads a = by (to_be_bytes w64 a.balance) (to_be_bytes w64 a.nonce) refl refl
   where
-    by : (x y : List ℕ) → length x ≡ 8 → length y ≡ 8 → from_be_bytes w64 x < 2 ^ 64
-        → (b : Sequenced) × (cond (bytes_eq (drop 16 ((x ++ y) ++ padding)) padding) (Some (account_of ((x ++ y) ++ padding))) None ≡ Some b) × (b.balance < 2 ^ 64)
-    by x y p q f = (
+    by : (x y : List ℕ) → length x ≡ 8 → length y ≡ 8
+        → (b : Sequenced) × (cond (bytes_eq (drop 16 ((x ++ y) ++ padding)) padding) (Some (account_of ((x ++ y) ++ padding))) None ≡ Some b)
+    by x y p q = (
       account_of ((x ++ y) ++ padding),
       ap (λ c. cond c (Some (account_of ((x ++ y) ++ padding))) None) ((bytes_decides (drop 16 ((x ++ y) ++ padding)) padding).1 (padding_part x y padding p q)),
-      subst (λ z. from_be_bytes w64 z < 2 ^ 64) (sym (balance_part x y padding p q)) f,
     )
+
+-- each item is below 256
+abbrev AreBytes : List ℕ → Type 0
+AreBytes xs = AllByRecursion (λ b. b < 256) xs
+
+append_bytes : (xs ys : List ℕ) → AreBytes xs → AreBytes ys → AreBytes (xs ++ ys)
+append_bytes [] ys h k = k
+append_bytes (x ∷ xs) ys h k = (h.0, append_bytes xs ys h.1 k)
+
+zero_bytes : (n : ℕ) → AreBytes (replicate n 0)
+zero_bytes zero = tt
+zero_bytes (suc n) = (lit< tt, zero_bytes n)
+
+each_byte : (xs : List ℕ) → AreBytes xs → (i : ℕ) → get_or xs i 0 < 256
+each_byte [] h i = lit< tt
+each_byte (x ∷ xs) h zero = h.0
+each_byte (x ∷ xs) h (suc i) = each_byte xs h.1 i
+
+spelled_bytes : (n : ℕ) → AreBytes (to_be_bytes w64 n)
+spelled_bytes n = (last_byte (n / 72057594037927936), (last_byte (n / 281474976710656), (last_byte (n / 1099511627776), (last_byte (n / 4294967296), (last_byte (n / 16777216), (last_byte (n / 65536), (last_byte (n / 256), (last_byte n, tt))))))))
+
+-- each account's value has 32 bytes
+spelled_value : (a : Sequenced) → Is32Bytes (sequenced_value a)
+unfolding sequenced_value
+spelled_value a = (
+  refl,
+  each_byte (sequenced_value a)
+      (append_bytes (to_be_bytes w64 a.balance ++ to_be_bytes w64 a.nonce) padding (append_bytes (to_be_bytes w64 a.balance) (to_be_bytes w64 a.nonce) (spelled_bytes a.balance) (spelled_bytes a.nonce)) (zero_bytes 16)),
+)
 
 take_within : (n : ℕ) (v : List ℕ) (i : ℕ) → ((j : ℕ) → get_or v j 0 < 256) → get_or (take n v) i 0 < 256
 take_within zero v i h = lit< tt
@@ -107,7 +139,7 @@ whole v x y z p q r =
     append_assoc x y z ∙ ap (λ w. w ++ (y ++ z)) p ∙ ap (λ w. take 8 v ++ (w ++ z)) q ∙ ap (λ w. take 8 v ++ (take 8 (drop 8 v) ++ w)) (sym r ∙ far)
     ∙ ap (λ w. take 8 v ++ w) (take-append-drop 8 (drop 8 v)) ∙ take-append-drop 8 v
 
-is_read : (v : List ℕ) (a : Sequenced) → IsValue v → read_sequenced v ≡ Some a → sequenced_value a ≡ v
+is_read : (v : List ℕ) (a : Sequenced) → Is32Bytes v → read_sequenced v ≡ Some a → sequenced_value a ≡ v
 unfolding read_sequenced sequenced_value
 is_read v a s h = by (bytes_eq (drop 16 v) padding) refl h
   where
@@ -121,11 +153,32 @@ is_read v a s h = by (bytes_eq (drop 16 v) padding) refl h
         be_bytes_8 (take 8 (drop 8 v)) (from_be_bytes w64 (take 8 (drop 8 v))) (length_rest v s.0) (bytes_within (drop 8 v) 8 (λ i. subst (λ n. n < 256) (sym (get_or-drop 8 v i 0)) (s.1 (8 + i)))) refl in
         ap sequenced_value (sym is) ∙ whole v (to_be_bytes w64 (from_be_bytes w64 (take 8 v))) (to_be_bytes w64 (from_be_bytes w64 (take 8 (drop 8 v)))) padding first second rest
 
-pub sequenced_value_laws : ValueLaws sequenced_same IsSoundSequenced sequenced_values
+-- the balance of an account that a value spells has 64 bits
+spelled_amount : (v : List ℕ) (a : Sequenced) → Is32Bytes v → read_sequenced v ≡ Some a → a.balance ≤ max_amount
+unfolding read_sequenced
+spelled_amount v a s h = by (bytes_eq (drop 16 v) padding) h
+  where
+    within : (n : ℕ) → n < 2 ^ 64 → n ≤ max_amount
+    within n h = omega (arith, h)
+
+    first : List ℕ
+    first = take 8 v
+
+    small : from_be_bytes w64 first < 2 ^ 64
+    small = subst (λ x. from_be_bytes w64 x < 2 ^ 64) (be_bytes_8 first (from_be_bytes w64 first) (length_eight v s.0) (bytes_within v 8 s.1) refl) (bytes_bound (from_be_bytes w64 first))
+
+    by : (b : Bool) → cond b (Some (account_of v)) None ≡ Some a → a.balance ≤ max_amount
+    by false e = absurd cc
+    by true e = let is : account_of v ≡ a = cc in subst (λ c. c.balance ≤ max_amount) is (within (from_be_bytes w64 first) small)
+
+pub sequenced_value_laws : ValueLaws sequenced_same IsSoundSequenced sequenced_rules sequenced_values
 sequenced_value_laws = record {
   one_value = λ a b s. ap sequenced_value (sequenced_exact a b s);
   reads_back = reads_back;
   is_read = is_read;
+  is_value = spelled_value;
+  amount = spelled_amount;
+  first_amount = omega arith;
 }
 
 -- what is read of a value's parts

@@ -23,7 +23,7 @@ pub trait AccountValue: Account {
     fn from_value(value: &Value) -> Option<Self>
         ensures { SameOutcome Self.eq result (values.read value.now) };
 
-    ghost value_laws: { ValueLaws Self.eq sound values };
+    ghost value_laws: { ValueLaws Self.eq sound Self.rules values };
 }
 
 impl AccountValue for Sequenced {

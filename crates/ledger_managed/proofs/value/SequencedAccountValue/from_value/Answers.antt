@@ -1,4 +1,4 @@
-use Rattle.std.proofs.Common.{rules, ◌≡◌, ℕ, List, length, take, drop, Bool, true, false, not, sym, ap, subst, ◌∙◌, bytes_eq}
+use Rattle.std.proofs.Common.{rules, ◌≡◌, length, take, drop, Bool, true, false, not, bytes_eq}
 use Rattle.ledger_managed.specs.Spelled.{padding}
 use Rattle.ledger_managed.specs.SpelledProofs.{reads_as}
 use Rattle.ledger_managed.proofs.value.SequencedAccountValue.from_value.Goals as goal
