@@ -66,7 +66,7 @@ touched_all P [] h = tt
 touched_all P (u ∷ us) h =
     (h u.0 (ap (λ b. b || list_any (λ t. bytes_eq u.0 t.0) us) (nat_list_eq_equiv.refl u.0)), touched_all P us (λ k t. h k (or_true (bytes_eq k u.0) (list_any (λ t. bytes_eq k t.0) us) t)))
 
-module _ {A : Type 0} (same : A → A → Bool) (IsSound : A → Type 0) (values : Values A) (laws : ValueLaws same IsSound values) where
+module _ {A E : Type 0} (same : A → A → Bool) (IsSound : A → Type 0) (rules : Rules A E) (values : Values A) (laws : ValueLaws same IsSound rules values) where
   -- slots that are the same write the same
   written_same : (key : List ℕ) (s t : Slot A) → SameSlot same s t → written values key s ≡ written values key t
   written_same key Keep Keep h = refl
@@ -83,7 +83,7 @@ some_slot : {X : Type 0} (o : Option X) → IsSome o → (x : X) × (o ≡ Some 
 some_slot None h = absurd cc
 some_slot (Some x) h = (x, refl)
 
-module _ {A E : Type 0} (same : A → A → Bool) (equiv : IsEquivalence same) (rules : Rules A E) (laws : AccountLaws same rules) (IsSound : A → Type 0) (values : Values A) (value_laws : ValueLaws same IsSound values)
+module _ {A E : Type 0} (same : A → A → Bool) (equiv : IsEquivalence same) (rules : Rules A E) (laws : AccountLaws same rules) (IsSound : A → Type 0) (values : Values A) (value_laws : ValueLaws same IsSound rules values)
     (accounts : BTreeMap (List ℕ) A) (ops : List AnyOp) (replay : IsReplay same values accounts ops) (ts : List (List ℕ × Change E)) (keys : List (List ℕ)) (slots : List (Slot A))
     (are : AreSlotsOf same rules (opening_of rules accounts) ts keys slots) where
   -- the slot of a touched key writes what the key's slot writes
@@ -98,7 +98,7 @@ module _ {A E : Type 0} (same : A → A → Bool) (equiv : IsEquivalence same) (
       by : (s : Slot A) (o : Option A) → MatchOption o ⊥ (λ e. SameSlot same s (slot_of same rules (opened rules (account_at values ops key)) e))
           → written values key s ≡ written values key (unwrap_or (option_map (slot_of same rules (opened rules (account_at values ops key))) o) Keep)
       by s None h = absurd h
-      by s (Some e) h = written_same same IsSound values value_laws key s (slot_of same rules (opened rules (account_at values ops key)) e) h
+      by s (Some e) h = written_same same IsSound rules values value_laws key s (slot_of same rules (opened rules (account_at values ops key)) e) h
 
   -- the slots of the touched keys in order write the changes
   pub slots_write : filter_map (λ key. option_and_then (written values key) (slot_found keys slots key)) (firsts bytes_eq (map (λ t. t.0) ts)) ≡ changed same rules values ops ts

@@ -8,6 +8,8 @@ use Rattle.ledger_log.specs.Any.{any_write}
 use Rattle.ledger_log.specs.View.{written_at, value_or_none, value_at}
 use Rattle.ledger_log.specs.declared.any.AnyOp.{AnyOp}
 use Rattle.ledger_log.specs.declared.any.AnyOp.TheVariants.{Update, Delete, CommitFloor}
+use Rattle.ledger_managed.specs.Values.{ValueLaws}
+use Rattle.ledger_log.specs.Spelling.{Is32Bytes}
 use Rattle.ledger_job.specs.declared.block.Block.{Block}
 use Rattle.ledger_job.specs.declared.block.Block.TheVariants.{Body, Rounds}
 use Rattle.ledger_job.specs.declared.block.BlockVerdicts.{BlockVerdicts}
@@ -83,18 +85,18 @@ module _ {T A E : Type 0} (m : Meaning T A E) where
       no_offence m.rules (opening m ops k) (total_of bytes_eq (touches m.changes_of batch) k) k r
       (settles_key bytes_eq nat_list_eq_equiv m.same m.rules (opening m ops) (opening_equal ops) (touches m.changes_of batch) k s t) first
 
-  -- an Update writes the value of some account
-  abbrev pub IsSpelled : AnyOp → Type 0
-  IsSpelled (Update key value) = (a : A) × (value ≡ m.values.value_of a)
-  IsSpelled (Delete key) = ⊤
-  IsSpelled (CommitFloor metadata floor) = ⊤
+  -- an Update writes 32 bytes
+  abbrev pub IsWritten : AnyOp → Type 0
+  IsWritten (Update key value) = Is32Bytes value
+  IsWritten (Delete key) = ⊤
+  IsWritten (CommitFloor metadata floor) = ⊤
 
-  -- there was such a value before, or an Update wrote it
+  -- there was such a value before, or it has 32 bytes
   abbrev Known : Option (Option (List ℕ)) → List ℕ → Type 0
-  Known o v = (value_or_none o ≡ Some v) ⊎ ((a : A) × (v ≡ m.values.value_of a))
+  Known o v = (value_or_none o ≡ Some v) ⊎ Is32Bytes v
 
-  after_update : (o : Option (Option (List ℕ))) (value v : List ℕ) → (a : A) × (value ≡ m.values.value_of a) → Known (Some (Some value)) v → Known o v
-  after_update o value v s (inl q) = let is : value ≡ v = ap (λ x. unwrap_or x v) q in inr (s.0, sym is ∙ s.1)
+  after_update : (o : Option (Option (List ℕ))) (value v : List ℕ) → Is32Bytes value → Known (Some (Some value)) v → Known o v
+  after_update o value v s (inl q) = let is : value ≡ v = ap (λ x. unwrap_or x v) q in inr (subst Is32Bytes is s)
   after_update o value v s (inr q) = inr q
 
   after_delete : (o : Option (Option (List ℕ))) (v : List ℕ) → Known (Some None) v → Known o v
@@ -106,54 +108,54 @@ module _ {T A E : Type 0} (m : Meaning T A E) where
   written_or_not true o w rest v e more back = back (more (Some w) e)
   written_or_not false o w rest v e more back = more o e
 
-  value_spelled : (key : List ℕ) (o : Option (Option (List ℕ))) (ops : List AnyOp) (v : List ℕ) → AllByRecursion IsSpelled ops → value_or_none (last_or o (filter_map (λ op. written_at key (any_write op)) ops)) ≡ Some v
+  value_written : (key : List ℕ) (o : Option (Option (List ℕ))) (ops : List AnyOp) (v : List ℕ) → AllByRecursion IsWritten ops → value_or_none (last_or o (filter_map (λ op. written_at key (any_write op)) ops)) ≡ Some v
       → Known o v
-  value_spelled key o [] v h e = inl e
-  value_spelled key o (Update k value ∷ ops) v h e =
-      written_or_not (bytes_eq k key) o (Some value) (filter_map (λ op. written_at key (any_write op)) ops) v e (λ p. value_spelled key p ops v h.1) (after_update o value v h.0)
-  value_spelled key o (Delete k ∷ ops) v h e =
-      written_or_not (bytes_eq k key) o None (filter_map (λ op. written_at key (any_write op)) ops) v e (λ p. value_spelled key p ops v h.1) (after_delete o v)
-  value_spelled key o (CommitFloor metadata floor ∷ ops) v h e = value_spelled key o ops v h.1 e
+  value_written key o [] v h e = inl e
+  value_written key o (Update k value ∷ ops) v h e =
+      written_or_not (bytes_eq k key) o (Some value) (filter_map (λ op. written_at key (any_write op)) ops) v e (λ p. value_written key p ops v h.1) (after_update o value v h.0)
+  value_written key o (Delete k ∷ ops) v h e =
+      written_or_not (bytes_eq k key) o None (filter_map (λ op. written_at key (any_write op)) ops) v e (λ p. value_written key p ops v h.1) (after_delete o v)
+  value_written key o (CommitFloor metadata floor ∷ ops) v h e = value_written key o ops v h.1 e
 
-  append_spelled : (xs ys : List AnyOp) → AllByRecursion IsSpelled xs → AllByRecursion IsSpelled ys → AllByRecursion IsSpelled (xs ++ ys)
-  append_spelled [] ys h k = k
-  append_spelled (x ∷ xs) ys h k = (h.0, append_spelled xs ys h.1 k)
+  append_written : (xs ys : List AnyOp) → AllByRecursion IsWritten xs → AllByRecursion IsWritten ys → AllByRecursion IsWritten (xs ++ ys)
+  append_written [] ys h k = k
+  append_written (x ∷ xs) ys h k = (h.0, append_written xs ys h.1 k)
 
-  slot_spelled : (key : List ℕ) (s : Slot A) (rest : List AnyOp) → AllByRecursion IsSpelled rest → AllByRecursion IsSpelled (cons_option (written m.values key s) rest)
-  slot_spelled key Keep rest r = r
-  slot_spelled key Remove rest r = (tt, r)
-  slot_spelled key (Put a) rest r = ((a, refl), r)
+  module _ {IsSound : A → Type 0} (laws : ValueLaws m.same IsSound m.rules m.values) where
+    slot_written : (key : List ℕ) (s : Slot A) (rest : List AnyOp) → AllByRecursion IsWritten rest → AllByRecursion IsWritten (cons_option (written m.values key s) rest)
+    slot_written key Keep rest r = r
+    slot_written key Remove rest r = (tt, r)
+    slot_written key (Put a) rest r = (laws.is_value a, r)
 
-  slots_spelled : (ops : List AnyOp) (ts : List (List ℕ × Change E)) (ks : List (List ℕ)) → AllByRecursion IsSpelled (filter_map (λ key. written m.values key (slot_at m.same m.rules m.values ops ts key)) ks)
-  slots_spelled ops ts [] = tt
-  slots_spelled ops ts (k ∷ ks) = slot_spelled k (slot_at m.same m.rules m.values ops ts k) _ (slots_spelled ops ts ks)
+    slots_written : (ops : List AnyOp) (ts : List (List ℕ × Change E)) (ks : List (List ℕ)) → AllByRecursion IsWritten (filter_map (λ key. written m.values key (slot_at m.same m.rules m.values ops ts key)) ks)
+    slots_written ops ts [] = tt
+    slots_written ops ts (k ∷ ks) = slot_written k (slot_at m.same m.rules m.values ops ts k) _ (slots_written ops ts ks)
 
-  grown_spelled : (ops : List AnyOp) (batch : List T) → AllByRecursion IsSpelled ops → AllByRecursion IsSpelled (grown m ops batch)
-  grown_spelled ops batch h =
-      append_spelled ops (appended m.same m.rules m.values ops (touches m.changes_of batch)) h
-      (append_spelled (changed m.same m.rules m.values ops (touches m.changes_of batch)) (CommitFloor None (floor_of ops) ∷ []) (slots_spelled ops (touches m.changes_of batch) (firsts bytes_eq (map (λ t. t.0) (touches m.changes_of batch)))) (tt, tt))
+    grown_written : (ops : List AnyOp) (batch : List T) → AllByRecursion IsWritten ops → AllByRecursion IsWritten (grown m ops batch)
+    grown_written ops batch h =
+        append_written ops (appended m.same m.rules m.values ops (touches m.changes_of batch)) h
+        (append_written (changed m.same m.rules m.values ops (touches m.changes_of batch)) (CommitFloor None (floor_of ops) ∷ []) (slots_written ops (touches m.changes_of batch) (firsts bytes_eq (map (λ t. t.0) (touches m.changes_of batch)))) (tt, tt))
 
-  module _ (bounded : (a b : A) → m.values.read (m.values.value_of a) ≡ Some b → m.rules.balance_of b ≤ max_amount) (starts : m.rules.balance_of m.rules.initial ≤ max_amount) where
-    amounts_of : (ops : List AnyOp) → AllByRecursion IsSpelled ops → (k : List ℕ) → m.rules.balance_of (opening m ops k) ≤ max_amount
+    amounts_of : (ops : List AnyOp) → AllByRecursion IsWritten ops → (k : List ℕ) → m.rules.balance_of (opening m ops k) ≤ max_amount
     amounts_of ops h k = by (value_at any_write k ops) refl
       where
-        read_of : (v : List ℕ) → ((a : A) × (v ≡ m.values.value_of a)) → (r : Option A) → m.values.read v ≡ r → m.rules.balance_of (opened m.rules r) ≤ max_amount
-        read_of v s None e = starts
-        read_of v s (Some b) e = bounded s.0 b (ap m.values.read (sym s.1) ∙ e)
+        read_of : (v : List ℕ) → Is32Bytes v → (r : Option A) → m.values.read v ≡ r → m.rules.balance_of (opened m.rules r) ≤ max_amount
+        read_of v s None e = laws.first_amount
+        read_of v s (Some b) e = laws.amount v b s e
 
-        found : (v : List ℕ) → Known None v → (a : A) × (v ≡ m.values.value_of a)
+        found : (v : List ℕ) → Known None v → Is32Bytes v
         found v (inl q) = absurd (true≢false (sym (ap is_some q)))
         found v (inr q) = q
 
         by : (o : Option (List ℕ)) → value_at any_write k ops ≡ o → m.rules.balance_of (opened m.rules (option_and_then m.values.read o)) ≤ max_amount
-        by None e = starts
-        by (Some v) e = read_of v (found v (value_spelled k None ops v h e)) (m.values.read v) refl
+        by None e = laws.first_amount
+        by (Some v) e = read_of v (found v (value_written k None ops v h e)) (m.values.read v) refl
 
     some_is : {X : Type 0} (x y : X) → Some x ≡ Some y → x ≡ y
     some_is x y h = ap (λ o. unwrap_or o x) h
 
     -- where all blocks settle, none is rejected
-    pub never_rejected : (bs : List (Block T)) (vs : List BlockVerdicts) (ops all : List AnyOp) → AllByRecursion IsSpelled ops → RunsTo m ops bs vs all
+    pub never_rejected : (bs : List (Block T)) (vs : List BlockVerdicts) (ops all : List AnyOp) → AllByRecursion IsWritten ops → RunsTo m ops bs vs all
         → (i : ℕ) (ws : List BlockVerdicts) (there : List AnyOp) (batch : List T) (r : Rejection (List ℕ)) → RunsTo m ops (take i bs) ws there → slice_get bs i ≡ Some (Body batch) → IsOffence m there batch r → ⊥
     never_rejected [] vs ops all h runs i ws there batch r before at o = absurd (true≢false (sym (ap is_some at)))
     never_rejected (b ∷ bs) [] ops all h runs i ws there batch r before at o = absurd runs
@@ -164,7 +166,7 @@ module _ {T A E : Type 0} (m : Meaning T A E) where
     never_rejected (b ∷ bs) (v ∷ vs) ops all h runs (suc i) [] there batch r before at o = absurd before
     never_rejected (b ∷ bs) (v ∷ vs) ops all h runs (suc i) (w ∷ ws) there batch r before at o =
         let same = one_batch ops b w v before.0 runs.0 in
-        never_rejected bs vs (grown m ops (batch_of b v)) all (grown_spelled ops (batch_of b v) h) runs.1 i ws there batch r
+        never_rejected bs vs (grown m ops (batch_of b v)) all (grown_written ops (batch_of b v) h) runs.1 i ws there batch r
         (subst (λ us. RunsTo m (grown m ops us) (take i bs) ws there) same before.1) at o
 
 filter_short : {X : Type 0} (p : X → Bool) (xs : List X) → length (filter p xs) ≤ length xs
@@ -256,11 +258,11 @@ module _ {T A E : Type 0} (m : Meaning T A E) (two : (t : T) → length (m.chang
   -- where there is room for all blocks, none makes the log too long
   pub never_full : (start : ℕ) (ops : List AnyOp) (bs : List (Block T)) (i : ℕ) → (start + length ops) + room_for bs ≤ 2 ^ 62 → IsFull m start ops bs i → ⊥
   never_full start ops bs i room f =
-      let before = run_short (take i bs) f.verdicts ops f.all f.before in
-      let one = grown_short f.all (batch_of f.block f.verdict) in
+      let before = run_short (take i bs) f.before.verdicts ops f.before.all f.before.runs in
+      let one = grown_short f.before.all (batch_of f.block f.verdict) in
       let few = batch_short f.block f.verdict in
       let at = room_at bs i f.block f.at in
-      too_long start (length ops) (length f.all) (length (grown m f.all (batch_of f.block f.verdict))) (length (batch_of f.block f.verdict)) (transfers_in f.block) (room_for (take i bs)) (room_for bs) before one few at room f.long
+      too_long start (length ops) (length f.before.all) (length (grown m f.before.all (batch_of f.block f.verdict))) (length (batch_of f.block f.verdict)) (transfers_in f.block) (room_for (take i bs)) (room_for bs) before one few at room f.long
     where
       too_long : (s n a g k t r whole : ℕ) → a ≤ n + r → g ≤ a + (1 + 2 * k) → k ≤ t → r + (1 + 2 * t) ≤ whole → (s + n) + whole ≤ 2 ^ 62 → 2 ^ 62 < s + g → ⊥
       too_long s n a g k t r whole p q u v w x = omega (arith, p, q, u, v, w, x)

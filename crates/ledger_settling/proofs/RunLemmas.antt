@@ -1,6 +1,6 @@
 -- One block more.
-use Rattle.std.proofs.Common.{◌≡◌, ℕ, ◌+◌, ◌^◌, ◌<◌, List, [], ◌∷◌, ◌++◌, length, take, slice_get, Some, All, sym, ap, subst}
-use Rattle.ledger_log.specs.View.{LogView, log_root}
+use Rattle.std.proofs.Common.{◌≡◌, ℕ, ◌+◌, ◌^◌, ◌<◌, ◌≤◌, List, [], ◌∷◌, ◌++◌, length, take, slice_get, Some, All, sym, ap, subst}
+use Rattle.ledger_log.specs.View.{LogView, log_root, log_size}
 use Rattle.ledger_log.specs.Any.{any_spelling}
 use Rattle.ledger_merkle.specs.Tree.{root, grow, part_root}
 use Rattle.sha2.specs.Sha256.{sha256}
@@ -15,7 +15,7 @@ use Rattle.ledger_settling.specs.declared.fault.ReportFault.{ReportFault}
 use Rattle.ledger_settling.specs.declared.fault.ReportFault.TheVariants.{BadLog, BadValue, Rejected, Full, OutOfMemory}
 use Rattle.ledger_log.specs.declared.target.Target.{Target}
 use Rattle.ledger_log.specs.declared.any.AnyOp.{AnyOp}
-use Rattle.ledger_settling.specs.Blocks.{Meaning, Settles, RunsTo, grown, batch_of, IsRejected, IsFull, IsReadable}
+use Rattle.ledger_settling.specs.Blocks.{Meaning, Settles, RunsTo, grown, batch_of, RunsBefore, IsRejected, IsFull, IsReadable}
 use Rattle.ledger_job.specs.declared.block.Block.{Block}
 use Rattle.ledger_job.specs.declared.block.BlockVerdicts.{BlockVerdicts}
 
@@ -39,22 +39,27 @@ module _ {T A E : Type 0} (m : Meaning T A E) where
       by (Full j) h = (h.0, (NoVerdicts, h.1, h.2))
       by OutOfMemory h = h
 
+  -- what the blocks before one made of a log
+  abbrev runs_before : (target : Target) (kept : List AnyOp) (blocks : List (Block T)) (vs : List BlockVerdicts) (log : LogView AnyOp) (i : ℕ)
+      → RunsTo m kept (take i blocks) vs log.ops → log.front ≡ target.start → log_size log ≤ 2 ^ 62 → RunsBefore m target.start kept blocks i
+  runs_before target kept blocks vs log i r f short = record { verdicts = vs; all = log.ops; runs = r; short = subst (λ n. n + length log.ops ≤ 2 ^ 62) f short }
+
   -- a block's fault is the run's
   pub run_fails : (target : Target) (kept : List AnyOp) (blocks : List (Block T)) (vs : List BlockVerdicts) (log : LogView AnyOp) (i : ℕ) (block : Block T) (fault : ReportFault)
-      → IsWhole target.start kept → All (IsReadable m.values) kept → RunsTo m kept (take i blocks) vs log.ops → slice_get blocks i ≡ Some block → log.front ≡ target.start
+      → IsWhole target.start kept → All (IsReadable m.values) kept → RunsTo m kept (take i blocks) vs log.ops → slice_get blocks i ≡ Some block → log.front ≡ target.start → log_size log ≤ 2 ^ 62
       → BlockFails m log i block fault → RunFails m target kept blocks fault
-  run_fails target kept blocks vs log i block (BadLog location) w a r at f h = absurd h
-  run_fails target kept blocks vs log i block (BadValue location) w a r at f h = absurd h
-  run_fails target kept blocks vs log i (Body batch) (Rejected j x) w a r at f h =
-      (w, a, subst (λ k. IsRejected m kept blocks k x) (sym h.0) (record { verdicts = vs; all = log.ops; before = r; batch = batch; at = at; offence = h.1 }))
-  run_fails target kept blocks vs log i (Rounds rounds) (Rejected j x) w a r at f h = absurd h.1
-  run_fails target kept blocks vs log i block (Full j) w a r at f h = (
+  run_fails target kept blocks vs log i block (BadLog location) w a r at f short h = absurd h
+  run_fails target kept blocks vs log i block (BadValue location) w a r at f short h = absurd h
+  run_fails target kept blocks vs log i (Body batch) (Rejected j x) w a r at f short h =
+      (w, a, subst (λ k. IsRejected m target.start kept blocks k x) (sym h.0) (record { before = runs_before target kept blocks vs log i r f short; batch = batch; at = at; offence = h.1 }))
+  run_fails target kept blocks vs log i (Rounds rounds) (Rejected j x) w a r at f short h = absurd h.1
+  run_fails target kept blocks vs log i block (Full j) w a r at f short h = (
     w,
     a,
     subst (λ k. IsFull m target.start kept blocks k) (sym h.0)
-        (record { verdicts = vs; all = log.ops; before = r; block = block; verdict = h.1.0; at = at; settles = h.1.1; long = subst (λ n. 2 ^ 62 < n + length (grown m log.ops (batch_of block h.1.0))) f h.1.2 }),
+        (record { before = runs_before target kept blocks vs log i r f short; block = block; verdict = h.1.0; at = at; settles = h.1.1; long = subst (λ n. 2 ^ 62 < n + length (grown m log.ops (batch_of block h.1.0))) f h.1.2 }),
   )
-  run_fails target kept blocks vs log i block OutOfMemory w a r at f h = tt
+  run_fails target kept blocks vs log i block OutOfMemory w a r at f short h = tt
 
 -- the root of a log, from its parts
 pub report_root : (log : LogView AnyOp) (start : ℕ) (pinned : List (List ℕ)) → log.front ≡ start → log.pinned ≡ pinned

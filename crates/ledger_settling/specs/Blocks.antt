@@ -1,5 +1,5 @@
 -- What settling blocks of transfers makes of a list of operations.
-use Rattle.std.specs.Prelude.{◌≡◌, ℕ, ◌+◌, ◌^◌, ◌<◌, ◌++◌, Bool, not, List, [], ◌∷◌, length, map, filter, filter_map, take, slice_get, Option, None, Some, IsSome, unwrap_or, option_map, option_and_then, bytes_eq, ⊤, ◌⊎◌}
+use Rattle.std.specs.Prelude.{◌≡◌, ℕ, ◌+◌, ◌^◌, ◌<◌, ◌≤◌, ◌++◌, Bool, not, List, [], ◌∷◌, length, map, filter, filter_map, take, slice_get, Option, None, Some, IsSome, unwrap_or, option_map, option_and_then, bytes_eq, ⊤, ◌⊎◌}
 use Rattle.std.specs.List.{flat_map, last_or}
 use Rattle.ledger_log.specs.Any.{any_floor, any_write}
 use Rattle.ledger_log.specs.View.{value_at}
@@ -118,22 +118,25 @@ module _ {T A E : Type 0} (m : Meaning T A E) where
   RunsTo ops (b ∷ bs) (v ∷ vs) all = Settles ops b v × RunsTo (grown m ops (batch_of b v)) bs vs all
   RunsTo ops bs vs all = ⊥
 
-  -- the blocks before place i settle, the one at i is a body, and it doesn't settle, with this offence
-  pub record IsRejected (kept : List AnyOp) (blocks : List (Block T)) (i : ℕ) (r : Rejection (List ℕ)) : Type 0 where
+  -- the blocks before place i settle and keep the log within 2^62, and their operations and verdicts are these
+  pub record RunsBefore (start : ℕ) (kept : List AnyOp) (blocks : List (Block T)) (i : ℕ) : Type 0 where
     pub verdicts : List BlockVerdicts
     pub all : List AnyOp
-    pub before : RunsTo kept (take i blocks) verdicts all
+    pub runs : RunsTo kept (take i blocks) verdicts all
+    pub short : start + length all ≤ 2 ^ 62
+
+  -- behind such blocks the one at i is a body, and it doesn't settle, with this offence
+  pub record IsRejected (start : ℕ) (kept : List AnyOp) (blocks : List (Block T)) (i : ℕ) (r : Rejection (List ℕ)) : Type 0 where
+    pub before : RunsBefore start kept blocks i
     pub batch : List T
     pub at : slice_get blocks i ≡ Some (Body batch)
-    pub offence : IsOffence m all batch r
+    pub offence : IsOffence m before.all batch r
 
-  -- the blocks up to place i settle, and the operations of the one at i would make the log too long
+  -- behind such blocks the one at i settles, and its operations would make the log too long
   pub record IsFull (start : ℕ) (kept : List AnyOp) (blocks : List (Block T)) (i : ℕ) : Type 0 where
-    pub verdicts : List BlockVerdicts
-    pub all : List AnyOp
-    pub before : RunsTo kept (take i blocks) verdicts all
+    pub before : RunsBefore start kept blocks i
     pub block : Block T
     pub verdict : BlockVerdicts
     pub at : slice_get blocks i ≡ Some block
-    pub settles : Settles all block verdict
-    pub long : 2 ^ 62 < start + length (grown m all (batch_of block verdict))
+    pub settles : Settles before.all block verdict
+    pub long : 2 ^ 62 < start + length (grown m before.all (batch_of block verdict))

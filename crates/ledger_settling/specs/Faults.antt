@@ -50,6 +50,6 @@ OpenFails target kept (Full block) = ⊥
 abbrev pub RunFails : {T A E : Type 0} → Meaning T A E → Target → List AnyOp → List (Block T) → ReportFault → Type 0
 RunFails m target kept blocks (BadLog location) = IsBadLog target kept location
 RunFails m target kept blocks (BadValue location) = IsWhole target.start kept × IsBadValue m.values target.start kept location
-RunFails m target kept blocks (Rejected block rejection) = IsWhole target.start kept × All (IsReadable m.values) kept × IsRejected m kept blocks block rejection
+RunFails m target kept blocks (Rejected block rejection) = IsWhole target.start kept × All (IsReadable m.values) kept × IsRejected m target.start kept blocks block rejection
 RunFails m target kept blocks (Full block) = IsWhole target.start kept × All (IsReadable m.values) kept × IsFull m target.start kept blocks block
 RunFails m target kept blocks OutOfMemory = ⊤

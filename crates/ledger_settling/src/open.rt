@@ -74,6 +74,8 @@ fn settle_log<
     let mut accounts = replay(alloc, target.start, &kept)?;
     let mut verdicts = Vec::new(alloc);
     for (place, block) in blocks.iter().enumerate() {
+        // Its type says that what was settled so far is within 2^62.
+        let _within = log.size();
         let verdict = settle_block(rt, alloc, &mut log, &mut accounts, place, block, strategy)?;
         verdicts.push(verdict)?;
     }

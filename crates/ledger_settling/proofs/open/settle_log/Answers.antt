@@ -44,7 +44,7 @@ returns-in_err-verdict-clause-fails g c =
     let at = slice_get_read blocks _ i c.index-blocks-place.result refl c.loop-place-test.true c.index-blocks-place.is in
     let p = err_from_is_err_and c.from_residual-in_err-verdict.result c.from_residual-in_err-verdict.ensures.1 in
     rw (p.1, p.2) (run_fails m c.args.target.now c.args.kept.items blocks c.loop-place.verdicts.items c.loop-place.log i c.index-blocks-place.result c.in_err-verdict.field-0.0 c.requires.whole readable runs at
-    c.loop-place.invariant.front c.in_err-verdict.ensures.fails)
+    c.loop-place.invariant.front c.size-within.ensures.most c.in_err-verdict.ensures.fails)
 
 pub returns-clause-report : goal.returns-clause-report
 returns-clause-report g c =
