@@ -1,5 +1,5 @@
 -- The causes of a run's faults, from those of its parts.
-use Rattle.std.proofs.Common.{◌≡◌, ◌∙◌, ℕ, Bool, true, List, Option, Some, None, refl, subst, sym, ap}
+use Rattle.std.proofs.Common.{◌≡◌, ◌∙◌, ℕ, Bool, true, List, Option, refl, subst, sym, ap}
 use Rattle.std.specs.Prelude.{IfSome, slice_get}
 use Rattle.ledger_job.specs.declared.block.Block.{Block}
 use Rattle.ledger_job.specs.declared.job.Job.{Job}
@@ -37,9 +37,8 @@ module _ (job : Job) (target : Target) (kept : List AnyOp) (blocks : List (Block
   local_fails (LogFull block) f = fails_job (LogFull block) f
   local_fails NoMemory f = tt
 
-unfollowed : (left : Option (List ℕ)) (job : Job) (fault : Fault) → IfSome left (λ text. IsJob text job) → FailsJob job fault → IfSome left (λ text. Unfollowed text fault)
-unfollowed None job fault j f = tt
-unfollowed (Some text) job fault j f = record { job = job; is_job = j; fails = f }
+unfollowed : (left : Option (List ℕ)) (job : Job) (fault : Fault) → IfSome left (λ text. IsJob text job) → FailsJob job fault → Unfollowed left fault
+unfollowed left job fault j f = record { job = job; is_job = j; fails = f }
 
 -- a fault of following the job that was read
 pub attempted : (form : Bool) (left : Option (List ℕ)) (before now : ℕ) (job : Job) (fault : RunFault) → form ≡ true → IfSome left (λ text. IsJob text job) → LocalFails job fault → Attempted form left before now fault

@@ -1,5 +1,5 @@
 -- That a job whose blocks settle ends with its report, or for want of memory.
-use Rattle.std.proofs.Common.{◌≡◌, ℕ, ◌+◌, ◌*◌, ◌^◌, ◌<◌, ◌≤◌, ◌⊎◌, inl, inr, Bool, true, List, [], ◌∷◌, ◌++◌, length, map, Option, Some, None, Result, Ok, Err, sym, ◌∙◌, subst, refl, arith, true≢false}
+use Rattle.std.proofs.Common.{◌≡◌, ℕ, ◌+◌, ◌*◌, ◌^◌, ◌≤◌, ◌⊎◌, inl, inr, Bool, true, List, [], ◌∷◌, ◌++◌, length, map, Option, Some, None, Result, Ok, Err, sym, ◌∙◌, subst, arith, true≢false}
 use Rattle.std.specs.Prelude.{IfSome, ⊤}
 use Rattle.std.specs.List.{AllByRecursion}
 use Rattle.ledger_codec.specs.Causes.{Rose}
@@ -9,8 +9,7 @@ use Rattle.ledger_job.specs.declared.payment.Payment.{Payment}
 use Rattle.ledger_job.specs.Payments.{payment_changes}
 use Rattle.ledger_log.specs.declared.any.AnyOp.TheVariants.{CommitFloor}
 use Rattle.ledger_log.specs.declared.target.Target.{Target}
-use Rattle.ledger_managed.specs.Spelled.{sequenced_value, read_sequenced}
-use Rattle.ledger_managed.specs.SpelledProofs.{value_reads}
+use Rattle.ledger_managed.specs.SpelledProofs.{sequenced_value_laws}
 use Rattle.ledger_program.specs.Faults.{fault_of}
 use Rattle.ledger_program.specs.Run.{payments, max_job, IsServed, FailsJob, Unfollowed, IsSettling, Completes, Caused, status_of}
 use Rattle.ledger_program.specs.Served.{served, update_of, opened_of}
@@ -22,31 +21,16 @@ use Rattle.ledger_settling.specs.Faults.{RunFails}
 use Rattle.ledger_settling.specs.declared.fault.ReportFault.{ReportFault}
 use Rattle.ledger_settling.specs.declared.fault.ReportFault.TheVariants.{BadLog as NoLog, BadValue as NoValue, Rejected as BlockRejected, Full as LogFull, OutOfMemory as NoMemory}
 use Rattle.ledger_settling.specs.Blocks.{IsFull}
-use Rattle.ledger_settling.proofs.CauseLemmas.{IsSpelled, never_rejected, never_full, room_for}
-use Rattle.ledger_transfers.specs.Touches.{max_amount}
-use Rattle.ledger_transfers.specs.declared.sequenced.Sequenced.{Sequenced}
+use Rattle.ledger_settling.proofs.CauseLemmas.{IsWritten, never_rejected, never_full, room_for}
 use Rattle.ledger_program.proofs.Rooms.{job_short}
 
-some_is : {X : Type 0} (x y : X) → Some x ≡ Some y → x ≡ y
-some_is x y e = cc
+updates_written : (accounts : List Open) → AllByRecursion (IsWritten payments) (map update_of accounts ++ CommitFloor None 0 ∷ [])
+updates_written [] = (tt, tt)
+updates_written (a ∷ accounts) = (sequenced_value_laws.is_value (opened_of a), updates_written accounts)
 
--- a value that is read has a balance of 64 bits
-bounded : (a b : Sequenced) → read_sequenced (sequenced_value a) ≡ Some b → b.balance ≤ max_amount
-bounded a b e =
-    let reads = value_reads a in
-    let is : reads.0 ≡ b = some_is reads.0 b (sym reads.1 ∙ e) in
-    subst (λ c. c.balance ≤ max_amount) is (within reads.0.balance reads.2)
-  where
-    within : (n : ℕ) → n < 2 ^ 64 → n ≤ max_amount
-    within n h = omega (arith, h)
-
-updates_spelled : (accounts : List Open) → AllByRecursion (IsSpelled payments) (map update_of accounts ++ CommitFloor None 0 ∷ [])
-updates_spelled [] = (tt, tt)
-updates_spelled (a ∷ accounts) = ((opened_of a, refl), updates_spelled accounts)
-
-served_spelled : (accounts : List Open) → AllByRecursion (IsSpelled payments) (served accounts)
+served_written : (accounts : List Open) → AllByRecursion (IsWritten payments) (served accounts)
 unfolding served
-served_spelled accounts = (tt, updates_spelled accounts)
+served_written accounts = (tt, updates_written accounts)
 
 two_changes : (p : Payment) → length (payment_changes p) ≤ 2
 two_changes p = omega arith
@@ -66,8 +50,8 @@ module _ (text : List ℕ) (settling : IsSettling text) where
   no_fault target (NoLog location) is f b = b
   no_fault target (NoValue location) is f b = b
   no_fault target (BlockRejected block rejection) is f b =
-      never_rejected payments bounded (omega arith) settling.job.blocks settling.verdicts (served settling.job.opens) settling.all (served_spelled settling.job.opens) settling.runs
-      block f.2.verdicts f.2.all f.2.batch rejection f.2.before f.2.at f.2.offence
+      never_rejected payments sequenced_value_laws settling.job.blocks settling.verdicts (served settling.job.opens) settling.all (served_written settling.job.opens) settling.runs
+      block f.2.before.verdicts f.2.before.all f.2.batch rejection f.2.before.runs f.2.at f.2.offence
   no_fault target (LogFull block) is f b =
       let few = job_short text settling.job settling.is_job.is in
       never_full payments two_changes 0 (served settling.job.opens) settling.job.blocks block (room (length (served settling.job.opens)) (room_for settling.job.blocks) (length text) few settling.is_job.within)
@@ -77,7 +61,7 @@ module _ (text : List ℕ) (settling : IsSettling text) where
       room n r t p q = omega (arith, p, q)
   no_fault target NoMemory is f b = b
 
-  settling_unfollowed : (fault : Fault) → IsBlockFault fault → Unfollowed text fault → ⊥
+  settling_unfollowed : (fault : Fault) → IsBlockFault fault → Unfollowed (Some text) fault → ⊥
   settling_unfollowed fault b u =
       let one : u.job ≡ settling.job = ok_is u.job settling.job _ u.is_job.is settling.is_job.is in
       let fails : FailsJob settling.job fault = subst (λ j. FailsJob j fault) one u.fails in

@@ -1,36 +1,30 @@
--- Fronts of a text that went out.
-use Rattle.std.proofs.Common.{◌≡◌, ℕ, ◌+◌, ◌-◌, ◌≤◌, arith, take_all, length-drop, List, ◌++◌, length, take, drop, take-add, sym, subst}
+-- What went out of a report's text and of a fault's line.
+use Rattle.std.proofs.Common.{◌≡◌, ℕ, zero, suc, ◌≤◌, inl, inr, Bool, List, [], ◌++◌, length, take, Option, Some, None, Result, Ok, Err, refl, sym, ap, subst, ◌∙◌, append-nil}
 use Rattle.std.proofs.Math.Seq.{take-length}
 use Rattle.std.proofs.KnownBytes.{Appends-trans}
-use Rattle.std.specs.declared.option.Option.{Option}
 use Rattle.std.specs.Io.KnownBytes.{Appends}
-use Rattle.std.proofs.Common.{[], zero, suc, Some, refl, ap, ◌∙◌, append-nil}
+use Rattle.ledger_codec.specs.declared.sink.SinkError.{SinkError}
+use Rattle.ledger_codec.specs.declared.sink.SinkError.TheVariants.{Failed, OutOfMemory as memory_wanting}
+use Rattle.ledger_program.proofs.Pieces.{rose_before}
 use Rattle.ledger_program.specs.ErrorLines.{line_of}
-use Rattle.ledger_program.specs.Run.{WriteFails, Wrote}
+use Rattle.ledger_program.specs.Run.{WriteFails, Wrote, IsEarly, LineWent, LineOut}
 use Rattle.ledger_program.specs.Text.{text_of}
-use Rattle.ledger_program.specs.Writing.{AppendsFront}
+use Rattle.ledger_program.specs.Writing.{AppendsFront, Writes}
 use Rattle.ledger_program.specs.declared.outcome.RunFault.{RunFault}
 use Rattle.ledger_program.specs.declared.outcome.RunFault.TheVariants.{Usage, BadJob, JobRead, JobTooLarge, Dial, Follow, Output, OutOfMemory}
 use Rattle.ledger_settling.specs.declared.report.Report.{Report}
 use Rattle.ledger_transfers.specs.declared.sequenced.Sequenced.{Sequenced}
 
-pub front_of_all : (old new : Option (List ℕ)) (text : List ℕ) → Appends old new text → AppendsFront old new text
-front_of_all old new text h = (length text, subst (Appends old new) (sym (take-length text)) h)
+module _ {grows : Bool} (a b : Option (List ℕ)) (x y : ℕ) (text : List ℕ) where
+  -- what went out of a text in each case
+  pub front_of_line : (r : Result (Unit {0}) SinkError) → Writes grows a b x y text r → AppendsFront a b text
+  front_of_line (Ok u) w = (length text, subst (Appends a b) (sym (take-length text)) w.all)
+  front_of_line (Err e) w = w.front
 
-pub front_more : (a b c : Option (List ℕ)) (text : List ℕ) (done count : ℕ) → Appends a b (take done text) → Appends b c (take count (drop done text)) → Appends a c (take (done + count) text)
-front_more a b c text done count p q = subst (Appends a c) (sym (take-add done count text)) (Appends-trans a b c _ _ p q)
-
--- what `&text[done..]` is
-pub piece : (text : List ℕ) (done : ℕ) → take (length text - done) (drop done text) ≡ drop done text
-piece text done = take_all (length text - done) (drop done text) (omega (arith, length-drop done text))
-
-pub within_more : (text : List ℕ) (done count : ℕ) → done ≤ length text → count ≤ length (take (length text - done) (drop done text)) → done + count ≤ length text
-within_more text done count h l =
-    let small : count ≤ length (drop done text) = rw (piece text done) at l in
-    omega (arith, length-drop done text)
-
-pub went_more : (a b c : Option (List ℕ)) (text : List ℕ) (done count : ℕ) → Appends a b (take done text) → Appends b c (take count (take (length text - done) (drop done text))) → Appends a c (take (done + count) text)
-went_more a b c text done count p q = front_more a b c text done count p (subst (λ l. Appends b c (take count l)) (piece text done) q)
+  pub line_went : (r : Result (Unit {0}) SinkError) → Writes grows a b x y text r → LineWent grows x y (Appends a b text)
+  line_went (Ok u) w = inl w.all
+  line_went (Err Failed) w = inr (inl (w.failed cc))
+  line_went (Err memory_wanting) w = inr (inr (w.memory cc))
 
 take_nothing : (n : ℕ) → take {A = ℕ} n [] ≡ []
 take_nothing zero = refl
@@ -54,3 +48,28 @@ wrote_late a b c report OutOfMemory before now w l = record {
   then = l.0;
   went = Appends-trans a b c (take w.0 (text_of report)) (take l.0 (line_of OutOfMemory)) w.1 l.1;
 }
+
+-- the line of a fault that came before there was a report
+pub early_line : (grows : Bool) (a b : Option (List ℕ)) (x y : ℕ) (fault : RunFault) → IsEarly fault → LineWent grows x y (Appends a b (line_of fault)) → LineOut grows a b x y None fault
+early_line grows a b x y Usage e w = w
+early_line grows a b x y (BadJob line) e w = w
+early_line grows a b x y JobRead e w = w
+early_line grows a b x y JobTooLarge e w = w
+early_line grows a b x y Dial e w = w
+early_line grows a b x y (Follow fault) e w = w
+early_line grows a b x y Output e w = tt
+early_line grows a b x y OutOfMemory e (inl w) = inl (0, w)
+early_line grows a b x y OutOfMemory e (inr w) = inr w
+
+-- the line of a fault that came while the report was written
+pub late_line : (grows : Bool) (a b c : Option (List ℕ)) (x y z : ℕ) (report : Report Sequenced) (fault : RunFault) → WriteFails a b report x y fault → x ≤ y → LineWent grows y z (Appends b c (line_of fault)) → LineOut grows a c x z (Some report) fault
+late_line grows a b c x y z report Usage w h l = absurd w
+late_line grows a b c x y z report (BadJob line) w h l = absurd w
+late_line grows a b c x y z report JobRead w h l = absurd w
+late_line grows a b c x y z report JobTooLarge w h l = absurd w
+late_line grows a b c x y z report Dial w h l = absurd w
+late_line grows a b c x y z report (Follow fault) w h l = absurd w
+late_line grows a b c x y z report Output w h l = tt
+late_line grows a b c x y z report OutOfMemory w h (inl l) = inl (w.0, Appends-trans a b c (take w.0 (text_of report)) (line_of OutOfMemory) w.1 l)
+late_line grows a b c x y z report OutOfMemory w h (inr (inl l)) = inr (inl (rose_before x y z h l))
+late_line grows a b c x y z report OutOfMemory w h (inr (inr l)) = inr (inr l)

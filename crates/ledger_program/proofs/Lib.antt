@@ -2,6 +2,7 @@ pub mod Causes
 pub mod Sessions
 pub mod Validity
 pub mod Fronts
+pub mod Pieces
 pub mod Names
 pub mod Lines
 pub mod Locals

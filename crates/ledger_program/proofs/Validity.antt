@@ -1,26 +1,25 @@
 -- Valid input over a link that serves it is followed, or memory is wanting.
-use Rattle.std.proofs.Common.{◌≡◌, ℕ, zero, suc, ◌≤◌, List, [], ◌∷◌, length, take, Option, Some, None, Err, refl, sym, ap, subst, ◌∙◌, arith, true≢false}
-use Rattle.std.specs.Prelude.{slice_get, is_some, unwrap_or, option_and_then}
+use Rattle.std.proofs.Common.{◌≡◌, ℕ, zero, suc, ◌≤◌, ◌-◌, List, [], ◌∷◌, length, take, drop, Option, Some, Err, refl, sym, ap, subst, ◌∙◌, arith, true≢false}
+use Rattle.std.specs.Prelude.{All, slice_get, is_some, unwrap_or}
+use Rattle.std.specs.List.{AllByRecursion}
+use Rattle.std.proofs.lemmas.List.Elements.{All-head, All-tail}
 use Rattle.std.proofs.lemmas.List.{length-append}
 use Rattle.ledger_codec.specs.Causes.{Rose}
 use Rattle.ledger_job.specs.declared.block.Block.{Block}
-use Rattle.ledger_job.specs.declared.block.Block.TheVariants.{Body}
 use Rattle.ledger_job.specs.declared.block.BlockVerdicts.{BlockVerdicts}
-use Rattle.ledger_job.specs.declared.block.BlockVerdicts.TheVariants.{Body as NoVerdicts, Rounds as Verdicts}
-use Rattle.ledger_log.specs.Any.{any_write}
-use Rattle.ledger_log.specs.View.{LogView, value_at}
+use Rattle.ledger_log.specs.Any.{IsSoundAny}
+use Rattle.ledger_log.specs.View.{LogView}
+use Rattle.ledger_managed.specs.Values.{ValueLaws}
 use Rattle.ledger_log.specs.declared.any.AnyOp.{AnyOp}
-use Rattle.ledger_log.specs.declared.any.AnyOp.TheVariants.{Update}
+use Rattle.ledger_log.specs.declared.any.AnyOp.TheVariants.{Update, Delete, CommitFloor}
 use Rattle.ledger_log.specs.declared.target.Target.{Target}
-use Rattle.ledger_program.specs.Follow.{FollowFails, FollowsLog, AreAmounts, IsValid, range_in}
+use Rattle.ledger_program.specs.Follow.{FollowFails, FollowsLog, IsValid, range_in}
 use Rattle.ledger_program.specs.declared.fault.Fault.{Fault}
 use Rattle.ledger_program.specs.declared.fault.Fault.TheVariants as faults
-use Rattle.ledger_settling.proofs.CauseLemmas.{one_batch, settled_or_offends}
-use Rattle.ledger_settling.specs.Blocks.{Meaning, IsReadable, IsSettled, IsOffence, Settles, RunsTo, batch_of, grown, appended, opening}
+use Rattle.ledger_settling.proofs.CauseLemmas.{IsWritten, one_batch, never_rejected}
+use Rattle.ledger_settling.specs.Blocks.{Meaning, IsReadable, Settles, RunsTo, batch_of, grown, appended}
 use Rattle.ledger_settling.specs.Faults.{IsUnreadable}
-use Rattle.ledger_transfers.specs.Settling.{opened}
-use Rattle.ledger_transfers.specs.Touches.{touches, max_amount}
-use Rattle.ledger_transfers.specs.declared.fault.Rejection.{Rejection}
+use Rattle.ledger_transfers.specs.Touches.{touches}
 use Rattle.sync_client.proofs.Insides.{All-at}
 use Rattle.sync_client.specs.Ending.{Origin}
 use Rattle.sync_net.specs.Wire.{Wire}
@@ -29,35 +28,27 @@ some_is : {X : Type 0} (x y : X) → Some x ≡ Some y → x ≡ y
 some_is x y h = ap (λ o. unwrap_or o x) h
 
 module _ {T A E : Type 0} (m : Meaning T A E) where
-  -- ---- no block is rejected
+  -- ---- each value that the log holds has 32 bytes
 
-  opens_with : AreAmounts m → (o : Option A) → ((a : A) → o ≡ Some a → m.rules.balance_of a ≤ max_amount) → m.rules.balance_of (opened m.rules o) ≤ max_amount
-  opens_with h None each = h.initial
-  opens_with h (Some a) each = each a refl
+  sound_written : (ops : List AnyOp) → All IsSoundAny ops → AllByRecursion (IsWritten m) ops
+  sound_written [] h = tt
+  sound_written (Update key value ∷ ops) h = ((All-head IsSoundAny (Update key value) ops h).1, sound_written ops (All-tail IsSoundAny (Update key value) ops h))
+  sound_written (Delete key ∷ ops) h = (tt, sound_written ops (All-tail IsSoundAny (Delete key) ops h))
+  sound_written (CommitFloor metadata floor ∷ ops) h = (tt, sound_written ops (All-tail IsSoundAny (CommitFloor metadata floor) ops h))
 
-  read_from : AreAmounts m → (v : Option (List ℕ)) → m.rules.balance_of (opened m.rules (option_and_then m.values.read v)) ≤ max_amount
-  read_from h None = h.initial
-  read_from h (Some v) = opens_with h (m.values.read v) (λ a e. h.read v a e)
+  dropped_written : (n : ℕ) (ops : List AnyOp) → AllByRecursion (IsWritten m) ops → AllByRecursion (IsWritten m) (drop n ops)
+  dropped_written zero ops h = h
+  dropped_written (suc n) [] h = tt
+  dropped_written (suc n) (op ∷ ops) h = dropped_written n ops h.1
 
-  amounts : AreAmounts m → (ops : List AnyOp) (k : List ℕ) → m.rules.balance_of (opening m ops k) ≤ max_amount
-  amounts h ops k = read_from h (value_at any_write k ops)
+  taken_written : (n : ℕ) (ops : List AnyOp) → AllByRecursion (IsWritten m) ops → AllByRecursion (IsWritten m) (take n ops)
+  taken_written zero ops h = tt
+  taken_written (suc n) [] h = tt
+  taken_written (suc n) (op ∷ ops) h = (h.0, taken_written n ops h.1)
 
-  body_settled : (ops : List AnyOp) (batch : List T) (v : BlockVerdicts) → Settles m ops (Body batch) v → IsSettled m ops batch
-  body_settled ops batch NoVerdicts s = s
-  body_settled ops batch (Verdicts vs) s = absurd s
-
-  none_rejected : AreAmounts m → (bs : List (Block T)) (vs : List BlockVerdicts) (ops all : List AnyOp) → RunsTo m ops bs vs all
-      → (i : ℕ) (ws : List BlockVerdicts) (there : List AnyOp) (batch : List T) (r : Rejection (List ℕ)) → RunsTo m ops (take i bs) ws there → slice_get bs i ≡ Some (Body batch) → IsOffence m there batch r → ⊥
-  none_rejected h [] vs ops all runs i ws there batch r before at o = absurd (true≢false (sym (ap is_some at)))
-  none_rejected h (b ∷ bs) [] ops all runs i ws there batch r before at o = absurd runs
-  none_rejected h (b ∷ bs) (v ∷ vs) ops all runs zero [] there batch r before at o =
-      let is : b ≡ Body batch = some_is b (Body batch) at in
-      settled_or_offends m ops batch r (amounts h ops) (body_settled ops batch v (subst (λ c. Settles m ops c v) is runs.0)) (subst (λ us. IsOffence m us batch r) before o)
-  none_rejected h (b ∷ bs) (v ∷ vs) ops all runs zero (w ∷ ws) there batch r before at o = absurd before
-  none_rejected h (b ∷ bs) (v ∷ vs) ops all runs (suc i) [] there batch r before at o = absurd before
-  none_rejected h (b ∷ bs) (v ∷ vs) ops all runs (suc i) (w ∷ ws) there batch r before at o =
-      let same = one_batch m ops b w v before.0 runs.0 in
-      none_rejected h bs vs (grown m ops (batch_of b v)) all runs.1 i ws there batch r (subst (λ us. RunsTo m (grown m ops us) (take i bs) ws there) same before.1) at o
+  -- so has each value in the target's range
+  pub range_written : (log : LogView AnyOp) (target : Target) → All IsSoundAny log.ops → AllByRecursion (IsWritten m) (range_in log target)
+  range_written log target h = taken_written (target.end - target.start) (drop (target.start - log.front) log.ops) (dropped_written (target.start - log.front) log.ops (sound_written log.ops h))
 
   -- ---- no block makes the log too long
 
@@ -98,25 +89,25 @@ module _ {T A E : Type 0} (m : Meaning T A E) where
   -- ---- the whole call
 
   -- a fault over valid input is want of memory
-  pub only_memory : (log : LogView AnyOp) (target : Target) (blocks : List (Block T)) (o : Origin AnyOp) (wire : Option Wire) (risen : ℕ) (fault : Fault) → AreAmounts m → IsValid m log target blocks → (Rose o.count risen → ⊥)
+  pub only_memory : {IsSound : A → Type 0} (laws : ValueLaws m.same IsSound m.rules m.values) (log : LogView AnyOp) (target : Target) (blocks : List (Block T)) (o : Origin AnyOp) (wire : Option Wire) (risen : ℕ) (fault : Fault) → AllByRecursion (IsWritten m) (range_in log target) → IsValid m log target blocks → (Rose o.count risen → ⊥)
       → FollowsLog m log target blocks (Err fault) → FollowFails m o wire risen blocks fault → fault ≡ faults.OutOfMemory
-  only_memory log target blocks o wire risen faults.Network h valid still served fails = absurd (still (let lt = fails.stopped.0 in omega arith))
-  only_memory log target blocks o wire risen faults.RequestChannelClosed h valid still served fails = absurd served
-  only_memory log target blocks o wire risen faults.InvalidResponse h valid still served fails = absurd served
-  only_memory log target blocks o wire risen (faults.UnexpectedResponse number) h valid still served fails = absurd served
-  only_memory log target blocks o wire risen (faults.Server code text) h valid still served fails = absurd served
-  only_memory log target blocks o wire risen (faults.InvalidProof number) h valid still served fails = absurd served
-  only_memory log target blocks o wire risen faults.TooManyStrays h valid still served fails = absurd served
-  only_memory log target blocks o wire risen (faults.WrongRoot found) h valid still served fails = absurd served
-  only_memory log target blocks o wire risen (faults.BadLog location) h valid still served fails = absurd (served.1 valid.whole)
-  only_memory log target blocks o wire risen (faults.BadValue location) h valid still served fails =
+  only_memory laws log target blocks o wire risen faults.Network h valid still served fails = absurd (still (let lt = fails.stopped.0 in omega arith))
+  only_memory laws log target blocks o wire risen faults.RequestChannelClosed h valid still served fails = absurd served
+  only_memory laws log target blocks o wire risen faults.InvalidResponse h valid still served fails = absurd served
+  only_memory laws log target blocks o wire risen (faults.UnexpectedResponse number) h valid still served fails = absurd served
+  only_memory laws log target blocks o wire risen (faults.Server code text) h valid still served fails = absurd served
+  only_memory laws log target blocks o wire risen (faults.InvalidProof number) h valid still served fails = absurd served
+  only_memory laws log target blocks o wire risen faults.TooManyStrays h valid still served fails = absurd served
+  only_memory laws log target blocks o wire risen (faults.WrongRoot found) h valid still served fails = absurd served
+  only_memory laws log target blocks o wire risen (faults.BadLog location) h valid still served fails = absurd (served.1 valid.whole)
+  only_memory laws log target blocks o wire risen (faults.BadValue location) h valid still served fails =
       let bad = served.1 in
       absurd (unread bad.op (All-at (IsReadable m.values) (range_in log target) bad.place bad.op bad.at valid.readable) bad.unreadable)
-  only_memory log target blocks o wire risen (faults.Rejected block rejection) h valid still served fails =
+  only_memory laws log target blocks o wire risen (faults.Rejected block rejection) h valid still served fails =
       let f = served.2 in
-      absurd (none_rejected h blocks valid.verdicts (range_in log target) valid.all valid.runs block f.verdicts f.all f.batch rejection f.before f.at f.offence)
-  only_memory log target blocks o wire risen (faults.Full block) h valid still served fails =
+      absurd (never_rejected m laws blocks valid.verdicts (range_in log target) valid.all h valid.runs block f.before.verdicts f.before.all f.batch rejection f.before.runs f.at f.offence)
+  only_memory laws log target blocks o wire risen (faults.Full block) h valid still served fails =
       let f = served.2 in
-      let k = none_long blocks valid.verdicts (range_in log target) valid.all valid.runs block f.verdicts f.all f.block f.verdict f.before f.at f.settles in
+      let k = none_long blocks valid.verdicts (range_in log target) valid.all valid.runs block f.before.verdicts f.before.all f.block f.verdict f.before.runs f.at f.settles in
       absurd (let l = f.long in let r = valid.room in omega arith)
-  only_memory log target blocks o wire risen faults.OutOfMemory h valid still served fails = refl
+  only_memory laws log target blocks o wire risen faults.OutOfMemory h valid still served fails = refl

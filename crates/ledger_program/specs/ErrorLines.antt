@@ -1,7 +1,7 @@
 -- The line that says why a run failed.
 use Rattle.std.specs.Prelude.{ℕ, ◌++◌, ◌&&◌, nat_le, List, [], ◌∷◌, codes, if◌then◌else◌}
 use Rattle.std.specs.Fmt.{decimal}
-use Rattle.std.specs.List.{flat_map}
+use Rattle.std.specs.List.{flat_map, concat}
 use Rattle.hex.specs.Hex.{encode_lower}
 use Rattle.sync_net.specs.declared.code.ErrorCode.{ErrorCode}
 use Rattle.sync_net.specs.declared.code.ErrorCode.TheVariants.{InvalidRequest, DatabaseError, NetworkError, StaleTarget, Timeout, InternalError}
@@ -15,11 +15,11 @@ use Rattle.ledger_transfers.specs.declared.fault.Rejection.TheVariants.{Refused,
 
 -- a line of these words and a number
 unfoldable pub number_line : List ℕ → ℕ → List ℕ
-number_line words n = codes "error " ++ words ++ codes " " ++ decimal n ++ 10 ∷ []
+number_line words n = concat (codes "error " ∷ words ∷ codes " " ∷ decimal n ∷ codes "\n" ∷ [])
 
 -- a line of a word, a block and a key
 unfoldable pub key_line : List ℕ → ℕ → List ℕ → List ℕ
-key_line word block key = codes "error " ++ word ++ codes " " ++ decimal block ++ codes " " ++ key_text key ++ 10 ∷ []
+key_line word block key = concat (codes "error " ∷ word ∷ codes " " ∷ decimal block ∷ codes " " ∷ key_text key ∷ codes "\n" ∷ [])
 
 -- the line of an offence
 abbrev pub rejection_line : ℕ → Rejection (List ℕ) → List ℕ
@@ -46,13 +46,17 @@ printed_byte b =
 abbrev pub printable : List ℕ → List ℕ
 printable text = flat_map printed_byte text
 
+-- what stands before a server's text
+unfoldable pub server_start : ErrorCode → List ℕ
+server_start code = concat (codes "error server " ∷ decimal (code_number code) ∷ codes " " ∷ [])
+
 -- the line of a server's refusal
-unfoldable pub server_line : ErrorCode → List ℕ → List ℕ
-server_line code message = codes "error server " ++ decimal (code_number code) ++ codes " " ++ printable message ++ 10 ∷ []
+abbrev pub server_line : ErrorCode → List ℕ → List ℕ
+server_line code message = (server_start code ++ printable message) ++ codes "\n"
 
 -- the line of a root that isn't the target's
 unfoldable pub root_line : List ℕ → List ℕ
-root_line found = codes "error root " ++ encode_lower found ++ 10 ∷ []
+root_line found = concat (codes "error root " ∷ encode_lower found ∷ codes "\n" ∷ [])
 
 -- the line of a fault of following a log
 abbrev pub follow_line : Fault → List ℕ

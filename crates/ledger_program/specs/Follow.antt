@@ -14,7 +14,6 @@ use Rattle.ledger_job.specs.declared.block.BlockVerdicts.{BlockVerdicts}
 use Rattle.ledger_settling.specs.Blocks.{Meaning, IsReadable, RunsTo}
 use Rattle.ledger_settling.specs.Faults.{RunFails}
 use Rattle.ledger_settling.specs.Reports.{ReportOf, IsWhole}
-use Rattle.ledger_transfers.specs.Touches.{max_amount}
 use Rattle.ledger_settling.specs.declared.fault.ReportFault.{ReportFault}
 use Rattle.ledger_settling.specs.declared.fault.ReportFault.TheVariants as causes
 use Rattle.ledger_settling.specs.declared.report.Report.{Report}
@@ -109,11 +108,6 @@ module _ {T A E : Type 0} (m : Meaning T A E) where
   FollowsLog log target blocks (Err Network) = ⊤
   FollowsLog log target blocks (Err OutOfMemory) = ⊤
   FollowsLog log target blocks (Err fault) = ⊥
-
--- balances are of 64 bits: of each account that a value spells, and of the one that a key without a value opens with
-pub record AreAmounts {T A E : Type 0} (m : Meaning T A E) : Type 0 where
-  pub read : (value : List ℕ) (account : A) → m.values.read value ≡ Some account → m.rules.balance_of account ≤ max_amount
-  pub initial : m.rules.balance_of m.rules.initial ≤ max_amount
 
 -- The input is valid over this log: the target's range ends in a commit of its own, each value in it is an account, and the blocks settle, one after another, with room for what they append.
 pub record IsValid {T A E : Type 0} (m : Meaning T A E) (log : LogView AnyOp) (target : Target) (blocks : List (Block T)) : Type 0 where

@@ -1,5 +1,5 @@
 -- The words of the program, and what it answers.
-use Rattle.std.specs.Prelude.{◌≡◌, ◌≤◌, ℕ, Bool, true, false, List, [], ◌∷◌, ◌++◌, Option, Some, None, Ok, Err, length, codes, take, IfSome, ◌⊎◌, ⊤}
+use Rattle.std.specs.Prelude.{◌≡◌, ◌≤◌, ℕ, Bool, true, false, List, [], ◌∷◌, ◌++◌, Option, Some, None, Ok, Err, length, codes, take, IfSome, IsTrue, ◌⊎◌, ⊤}
 use Rattle.std.specs.Str.{bytes_eq}
 use Rattle.std.specs.Io.KnownBytes.{Appends}
 use Rattle.ledger_job.specs.Jobs.{job_of}
@@ -75,16 +75,16 @@ pub record FailsJob (job : Job) (fault : Fault) : Type 0 where
   pub fault_is : fault ≡ fault_of cause
   pub fails : RunFails payments target (served job.opens) job.blocks cause
 
--- the text is a job, and the report is that of the job
-pub record Followed (text : List ℕ) (report : Report Sequenced) : Type 0 where
+-- there is a job whose report it is; where the source told its bytes, their text is that job
+pub record Followed (left : Option (List ℕ)) (report : Report Sequenced) : Type 0 where
   pub job : Job
-  pub is_job : IsJob text job
+  pub is_job : IfSome left (λ text. IsJob text job)
   pub reports : ReportsJob job report
 
--- the text is a job that has no report, for this cause
-pub record Unfollowed (text : List ℕ) (fault : Fault) : Type 0 where
+-- there is a job that has no report, for this cause; where the source told its bytes, their text is that job
+pub record Unfollowed (left : Option (List ℕ)) (fault : Fault) : Type 0 where
   pub job : Job
-  pub is_job : IsJob text job
+  pub is_job : IfSome left (λ text. IsJob text job)
   pub fails : FailsJob job fault
 
 -- the text is a job whose blocks settle, one after another, on the log that it serves
@@ -134,8 +134,8 @@ Attempted form left before now (BadJob line) = (form ≡ true) × IfSome left (�
 Attempted form left before now JobRead = (form ≡ true) × Rose before now
 Attempted form left before now JobTooLarge = (form ≡ true) × HeldMore max_job left
 Attempted form left before now Dial = ⊥
-Attempted form left before now (Follow (Rejected block rejection)) = (form ≡ true) × IfSome left (λ text. Unfollowed text (Rejected block rejection))
-Attempted form left before now (Follow (Full block)) = (form ≡ true) × IfSome left (λ text. Unfollowed text (Full block))
+Attempted form left before now (Follow (Rejected block rejection)) = (form ≡ true) × Unfollowed left (Rejected block rejection)
+Attempted form left before now (Follow (Full block)) = (form ≡ true) × Unfollowed left (Full block)
 Attempted form left before now (Follow fault) = ⊥
 Attempted form left before now Output = ⊥
 Attempted form left before now OutOfMemory = form ≡ true
@@ -201,6 +201,20 @@ Wrote old new report (Some Output) = AppendsFront old new (text_if report)
 Wrote old new report (Some OutOfMemory) = FrontAndLine old new (text_if report) (line_of OutOfMemory)
 Wrote old new report (Some fault) = AppendsFront old new (line_of fault)
 
+-- the line of a fault went out, behind a front of the report's text where memory was wanting for the rest
+abbrev pub WroteLine : Option (List ℕ) → Option (List ℕ) → Option (Report Sequenced) → RunFault → Type 0
+WroteLine old new report OutOfMemory = (front : ℕ) × Appends old new (take front (text_if report) ++ line_of OutOfMemory)
+WroteLine old new report fault = Appends old new (line_of fault)
+
+-- a line went out, or the sink failed, and its count rose, or memory was wanting in a sink that grows
+abbrev pub LineWent : Bool → ℕ → ℕ → Type 0 → Type 0
+LineWent grows before now Went = Went ⊎ (Rose before now ⊎ IsTrue grows)
+
+-- the same of the line of a fault; after a failed write there is none
+abbrev pub LineOut : Bool → Option (List ℕ) → Option (List ℕ) → ℕ → ℕ → Option (Report Sequenced) → RunFault → Type 0
+LineOut grows old new before now report Output = ⊤
+LineOut grows old new before now report fault = LineWent grows before now (WroteLine old new report fault)
+
 -- why the report's text wasn't written whole: a front of it went out, and the sink failed, or memory was wanting
 abbrev pub WriteFails : Option (List ℕ) → Option (List ℕ) → Report Sequenced → ℕ → ℕ → RunFault → Type 0
 WriteFails old new report before now Output = AppendsFront old new (text_of report) × Rose before now
@@ -225,8 +239,8 @@ Caused form left read_before read_now wrote_before wrote_now (BadJob line) = (fo
 Caused form left read_before read_now wrote_before wrote_now JobRead = (form ≡ true) × Rose read_before read_now
 Caused form left read_before read_now wrote_before wrote_now JobTooLarge = (form ≡ true) × HeldMore max_job left
 Caused form left read_before read_now wrote_before wrote_now Dial = ⊥
-Caused form left read_before read_now wrote_before wrote_now (Follow (Rejected block rejection)) = (form ≡ true) × IfSome left (λ text. Unfollowed text (Rejected block rejection))
-Caused form left read_before read_now wrote_before wrote_now (Follow (Full block)) = (form ≡ true) × IfSome left (λ text. Unfollowed text (Full block))
+Caused form left read_before read_now wrote_before wrote_now (Follow (Rejected block rejection)) = (form ≡ true) × Unfollowed left (Rejected block rejection)
+Caused form left read_before read_now wrote_before wrote_now (Follow (Full block)) = (form ≡ true) × Unfollowed left (Full block)
 Caused form left read_before read_now wrote_before wrote_now (Follow fault) = ⊥
 Caused form left read_before read_now wrote_before wrote_now Output = (form ≡ true) × Rose wrote_before wrote_now
 Caused form left read_before read_now wrote_before wrote_now OutOfMemory = form ≡ true

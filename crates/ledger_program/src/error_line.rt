@@ -1,54 +1,94 @@
-//! The line that says why a run failed.
-ghost use Rattle.std.specs.Prelude.{◌≡◌, ◌++◌, IfOk, OnOk, string_bytes};
-ghost use Rattle.ledger_program.specs.ErrorLines.{number_line, key_line, rejection_line, code_number, printed_byte, printable, server_line, root_line, follow_line, line_of};
+//! The line that says why a run failed, written piece by piece: it needs no memory.
+ghost use Rattle.std.specs.Prelude.{◌≡◌, ◌++◌, ◌∷◌, [], codes, if◌then◌else◌};
+ghost use Rattle.std.specs.Fmt.{decimal};
+ghost use Rattle.std.specs.List.{concat};
+ghost use Rattle.hex.specs.Hex.{encode_lower};
+ghost use Rattle.ledger_program.specs.ErrorLines.{number_line, key_line, rejection_line, code_number, printable, server_start, server_line, root_line, follow_line, line_of};
+ghost use Rattle.ledger_program.specs.Text.{key_text};
+ghost use Rattle.ledger_program.specs.Writing.{Writes};
 
 use crate::fault::Fault;
-use crate::key_text::key_text;
+use crate::key_text::{hex_digits, hex_key, is_filled_name, name_of};
 use crate::outcome::RunFault;
-use ledger_codec::Digest;
+use crate::printable::write_printed;
+use crate::writing::{write_all, write_pieces};
+use itoa::Buffer;
+use ledger_codec::{Digest, Sink, SinkError};
 use ledger_log::Key;
 use ledger_transfers::Rejection;
-use std::alloc::{AllocError, Global};
-use std::fmt::Write;
 use sync_net::ErrorCode;
 
 #[tactic(auto, unfolding(crate::specs::ErrorLines::number_line))]
-fn number_line(alloc: Global, words: &str, number: u64) -> Result<String, AllocError>
-    ensures { IfOk result (λ text. string_bytes text ≡ number_line words.now number) }
+fn number_line<K: Sink>(out: &mut K, words: &str, number: u64) -> Result<(), SinkError>
+    ensures { Writes K.grows (K.written out.old) (K.written out.new) (K.faults out.old) (K.faults out.new)
+        (number_line words.now number) result }
 {
-    let mut line = String::from_str(alloc, "error ")?;
-    line.push_str(words)?;
-    write!(line, " {number}\n")?;
-    Ok(line)
+    let mut digits = Buffer::new();
+    let number = digits.format(number);
+    write_pieces(
+        out,
+        &[
+            b"error ".as_slice(),
+            words.as_bytes(),
+            b" ".as_slice(),
+            number.as_bytes(),
+            b"\n".as_slice(),
+        ],
+    )
 }
 
-#[tactic(auto, unfolding(crate::specs::ErrorLines::key_line))]
-fn key_line(alloc: Global, word: &str, block: usize, key: &Key) -> Result<String, AllocError>
-    ensures { IfOk result (λ text. string_bytes text ≡ key_line word.now block key.now) }
+/// The line of a word, a block and the text of a key.
+fn text_line<K: Sink>(out: &mut K, word: &str, block: u64, key: &[u8]) -> Result<(), SinkError>
+    ensures { Writes K.grows (K.written out.old) (K.written out.new) (K.faults out.old) (K.faults out.new)
+        (concat (codes "error " ∷ word.now ∷ codes " " ∷ decimal block ∷ codes " " ∷ key.now ∷ codes "\n" ∷ []))
+        result }
 {
-    let key = key_text(alloc, key)?;
-    let mut line = String::from_str(alloc, "error ")?;
-    line.push_str(word)?;
-    write!(line, " {block} {key}\n")?;
-    Ok(line)
+    let mut digits = Buffer::new();
+    let block = digits.format(block);
+    write_pieces(
+        out,
+        &[
+            b"error ".as_slice(),
+            word.as_bytes(),
+            b" ".as_slice(),
+            block.as_bytes(),
+            b" ".as_slice(),
+            key,
+            b"\n".as_slice(),
+        ],
+    )
 }
 
-fn rejection_line(
-    alloc: Global,
+#[tactic(auto, unfolding(crate::specs::ErrorLines::key_line, crate::specs::Text::key_text))]
+fn key_line<K: Sink>(out: &mut K, word: &str, block: usize, key: &Key) -> Result<(), SinkError>
+    ensures { Writes K.grows (K.written out.old) (K.written out.new) (K.faults out.old) (K.faults out.new)
+        (key_line word.now block key.now) result }
+{
+    if is_filled_name(key) {
+        text_line(out, word, block as u64, name_of(key))
+    } else {
+        let digits = hex_key(key);
+        text_line(out, word, block as u64, &digits)
+    }
+}
+
+fn rejection_line<K: Sink>(
+    out: &mut K,
     block: usize,
     rejection: &Rejection<Key>,
-) -> Result<String, AllocError>
-    ensures { IfOk result (λ text. string_bytes text ≡ rejection_line block rejection.now) }
+) -> Result<(), SinkError>
+    ensures { Writes K.grows (K.written out.old) (K.written out.new) (K.faults out.old) (K.faults out.new)
+        (rejection_line block rejection.now) result }
 {
     match rejection {
-        Rejection::Refused(key) => key_line(alloc, "refused", block, key),
-        Rejection::Insufficient(key) => key_line(alloc, "insufficient", block, key),
-        Rejection::Overflow(key) => key_line(alloc, "overflow", block, key),
+        Rejection::Refused(key) => key_line(out, "refused", block, key),
+        Rejection::Insufficient(key) => key_line(out, "insufficient", block, key),
+        Rejection::Overflow(key) => key_line(out, "overflow", block, key),
     }
 }
 
 /// The number that stands for a code in a message.
-fn code_number(code: ErrorCode) -> u8
+fn code_number(code: ErrorCode) -> u64
     ensures { result ≡ code_number code }
 {
     match code {
@@ -61,82 +101,90 @@ fn code_number(code: ErrorCode) -> u8
     }
 }
 
-fn push_byte(out: &mut String, byte: u8) -> Result<(), AllocError>
-    ensures { OnOk result (string_bytes out.new ≡ string_bytes out.old ++ printed_byte byte) }
+/// What stands before a server's text.
+#[tactic(auto, unfolding(crate::specs::ErrorLines::server_start))]
+fn server_start<K: Sink>(out: &mut K, code: ErrorCode) -> Result<(), SinkError>
+    ensures { Writes K.grows (K.written out.old) (K.written out.new) (K.faults out.old) (K.faults out.new)
+        (server_start code) result }
 {
-    if 32 <= byte && byte <= 126 {
-        out.push(char::from(byte))
-    } else if 128 <= byte && byte <= 191 {
-        Ok(())
-    } else {
-        out.push('?')
-    }
+    let mut digits = Buffer::new();
+    let number = digits.format(code_number(code));
+    write_pieces(
+        out,
+        &[
+            b"error server ".as_slice(),
+            number.as_bytes(),
+            b" ".as_slice(),
+        ],
+    )
 }
 
-/// A server's text, as far as it may be printed: it is whatever the peer sent.
-fn push_printable(out: &mut String, text: &[u8]) -> Result<(), AllocError>
-    ensures { OnOk result (string_bytes out.new ≡ string_bytes out.old ++ printable text.now) }
+/// The line of a server's refusal, whose text is whatever the peer sent.
+fn server_line<K: Sink>(out: &mut K, code: ErrorCode, message: &str) -> Result<(), SinkError>
+    ensures { Writes K.grows (K.written out.old) (K.written out.new) (K.faults out.old) (K.faults out.new)
+        (server_line code message.now) result }
 {
-    'each: for byte in text {
-        push_byte(out, *byte)?;
+    match server_start(out, code) {
+        Ok(()) => {}
+        Err(fault) => return Err(fault),
     }
-    Ok(())
+    match write_printed(out, message.as_bytes()) {
+        Ok(()) => {}
+        Err(fault) => return Err(fault),
+    }
+    write_all(out, b"\n")
 }
 
-#[tactic(auto, unfolding(crate::specs::ErrorLines::server_line))]
-fn server_line(alloc: Global, code: ErrorCode, message: &str) -> Result<String, AllocError>
-    ensures { IfOk result (λ text. string_bytes text ≡ server_line code message.now) }
+fn digits_line<K: Sink>(out: &mut K, digits: &[u8]) -> Result<(), SinkError>
+    ensures { Writes K.grows (K.written out.old) (K.written out.new) (K.faults out.old) (K.faults out.new)
+        (concat (codes "error root " ∷ digits.now ∷ codes "\n" ∷ [])) result }
 {
-    let number = code_number(code);
-    let mut line = String::new(alloc);
-    write!(line, "error server {number} ")?;
-    push_printable(&mut line, message.as_bytes())?;
-    line.push('\n')?;
-    Ok(line)
+    write_pieces(out, &[b"error root ".as_slice(), digits, b"\n".as_slice()])
 }
 
 #[tactic(auto, unfolding(crate::specs::ErrorLines::root_line))]
-fn root_line(alloc: Global, found: &Digest) -> Result<String, AllocError>
-    ensures { IfOk result (λ text. string_bytes text ≡ root_line found.now) }
+fn root_line<K: Sink>(out: &mut K, found: &Digest) -> Result<(), SinkError>
+    ensures { Writes K.grows (K.written out.old) (K.written out.new) (K.faults out.old) (K.faults out.new)
+        (root_line found.now) result }
 {
-    let digits = hex::encode(alloc, found)?;
-    let mut line = String::new(alloc);
-    write!(line, "error root {digits}\n")?;
-    Ok(line)
+    let digits = hex_digits(found);
+    digits_line(out, &digits)
 }
 
-fn follow_line(alloc: Global, fault: &Fault) -> Result<String, AllocError>
-    ensures { IfOk result (λ text. string_bytes text ≡ follow_line fault.now) }
+fn follow_line<K: Sink>(out: &mut K, fault: &Fault) -> Result<(), SinkError>
+    ensures { Writes K.grows (K.written out.old) (K.written out.new) (K.faults out.old) (K.faults out.new)
+        (follow_line fault.now) result }
 {
     match fault {
-        Fault::Network => String::from_str(alloc, "error network\n"),
-        Fault::RequestChannelClosed => String::from_str(alloc, "error closed\n"),
-        Fault::InvalidResponse => String::from_str(alloc, "error response\n"),
-        Fault::UnexpectedResponse { request_id } => number_line(alloc, "unexpected", *request_id),
-        Fault::Server { code, message } => server_line(alloc, *code, message.as_str()),
-        Fault::InvalidProof { request_id } => number_line(alloc, "proof", *request_id),
-        Fault::TooManyStrays => String::from_str(alloc, "error strays\n"),
-        Fault::WrongRoot { found } => root_line(alloc, found),
-        Fault::BadLog { location } => number_line(alloc, "log", location.get()),
-        Fault::BadValue { location } => number_line(alloc, "value", location.get()),
-        Fault::Rejected { block, rejection } => rejection_line(alloc, *block, rejection),
-        Fault::Full { block } => number_line(alloc, "full", *block as u64),
-        Fault::OutOfMemory => String::from_str(alloc, "error memory\n"),
+        Fault::Network => write_all(out, b"error network\n"),
+        Fault::RequestChannelClosed => write_all(out, b"error closed\n"),
+        Fault::InvalidResponse => write_all(out, b"error response\n"),
+        Fault::UnexpectedResponse { request_id } => number_line(out, "unexpected", *request_id),
+        Fault::Server { code, message } => server_line(out, *code, message.as_str()),
+        Fault::InvalidProof { request_id } => number_line(out, "proof", *request_id),
+        Fault::TooManyStrays => write_all(out, b"error strays\n"),
+        Fault::WrongRoot { found } => root_line(out, found),
+        Fault::BadLog { location } => number_line(out, "log", location.get()),
+        Fault::BadValue { location } => number_line(out, "value", location.get()),
+        Fault::Rejected { block, rejection } => rejection_line(out, *block, rejection),
+        Fault::Full { block } => number_line(out, "full", *block as u64),
+        Fault::OutOfMemory => write_all(out, b"error memory\n"),
     }
 }
 
-/// The line of a fault, with its line feed; empty after a failed write.
-pub(crate) fn error_line(alloc: Global, fault: &RunFault) -> Result<String, AllocError>
-    ensures { IfOk result (λ text. string_bytes text ≡ line_of fault.now) }
+/// Writes the line of a fault, with its line feed; nothing after a failed write.
+pub(crate) fn error_line<K: Sink>(out: &mut K, fault: &RunFault) -> Result<(), SinkError>
+    ensures { Writes K.grows (K.written out.old) (K.written out.new) (K.faults out.old) (K.faults out.new)
+        (line_of fault.now) result }
 {
     match fault {
-        RunFault::Usage => String::from_str(alloc, "error usage\n"),
-        RunFault::BadJob { line } => number_line(alloc, "job line", *line),
-        RunFault::JobRead => String::from_str(alloc, "error job read\n"),
-        RunFault::JobTooLarge => String::from_str(alloc, "error job too large\n"),
-        RunFault::Dial => String::from_str(alloc, "error dial\n"),
-        RunFault::Follow(fault) => follow_line(alloc, fault),
-        RunFault::Output => Ok(String::new(alloc)),
-        RunFault::OutOfMemory => String::from_str(alloc, "error memory\n"),
+        RunFault::Usage => write_all(out, b"error usage\n"),
+        RunFault::BadJob { line } => number_line(out, "job line", *line),
+        RunFault::JobRead => write_all(out, b"error job read\n"),
+        RunFault::JobTooLarge => write_all(out, b"error job too large\n"),
+        RunFault::Dial => write_all(out, b"error dial\n"),
+        RunFault::Follow(fault) => follow_line(out, fault),
+        RunFault::Output => write_all(out, b""),
+        RunFault::OutOfMemory => write_all(out, b"error memory\n"),
     }
 }

@@ -6,7 +6,7 @@
 //!      session's fault      no log, no account, no settled block
 //! ```
 ghost use Rattle.std.specs.Prelude.{◌≡◌, IfOk, IfErr, OnOk, IsOkUnless, IsTrue};
-ghost use Rattle.ledger_program.specs.Follow.{beginning, Follows, FollowFails, FollowsLog, AreAmounts, IsValid, LeavesCount, IsSteady, MayStop, fault_of_sync};
+ghost use Rattle.ledger_program.specs.Follow.{beginning, Follows, FollowFails, FollowsLog, IsValid, LeavesCount, IsSteady, MayStop, fault_of_sync};
 ghost use Rattle.ledger_codec.specs.Causes.{Rose};
 ghost use Rattle.ledger_log.specs.Any.{any_spelling, IsSoundAny};
 ghost use Rattle.sync_client.specs.Owing.{OwesNothing};
@@ -71,7 +71,7 @@ pub fn follow<
     ensures fails { IfErr result (FollowFails (meaning T.changes_of A.eq A.rules A.values) (beginning target.now limits.now (L.wire link.old) (L.faults link.old)) (L.wire link.new) (L.faults link.new) blocks.now) }
     ensures one_way { SessionLaws (beginning target.now limits.now (L.wire link.old) (L.faults link.old)).rules (beginning target.now limits.now (L.wire link.old) (L.faults link.old)).start }
     ensures serving { (held : LogData) → (h : Serves any_spelling IsSoundAny held target.now) → OwesNothing held (L.service link.old) → FollowsLog (meaning T.changes_of A.eq A.rules A.values) h.log target.now blocks.now result }
-    ensures complete { (held : LogData) → (h : Serves any_spelling IsSoundAny held target.now) → OwesNothing held (L.service link.old) → AreAmounts (meaning T.changes_of A.eq A.rules A.values) → IsValid (meaning T.changes_of A.eq A.rules A.values) h.log target.now blocks.now → (Rose (L.faults link.old) (L.faults link.new) → ⊥) → IsOkUnless result Fault.OutOfMemory }
+    ensures complete { (held : LogData) → (h : Serves any_spelling IsSoundAny held target.now) → OwesNothing held (L.service link.old) → IsValid (meaning T.changes_of A.eq A.rules A.values) h.log target.now blocks.now → (Rose (L.faults link.old) (L.faults link.new) → ⊥) → IsOkUnless result Fault.OutOfMemory }
     ensures rests { (held : LogData) → Serves any_spelling IsSoundAny held target.now → OwesNothing held (L.service link.old) → OnOk result (OwesNothing held (L.service link.new)) }
     ensures exact_count { IsTrue L.exact → LeavesCount result (L.faults link.old) (L.faults link.new) }
     ensures steady_on { L.steady link.old → L.steady link.new × IsSteady result (L.faults link.old) (L.faults link.new) }

@@ -17,7 +17,7 @@ fn zero_at(key: &[u8]) -> Option<usize>
 }
 
 /// What stands before the first zero byte of a key.
-fn name_of(key: &[u8]) -> &[u8]
+pub(crate) fn name_of(key: &[u8]) -> &[u8]
     ensures { result.now ≡ name_of key.now }
 {
     match zero_at(key) {
@@ -28,7 +28,7 @@ fn name_of(key: &[u8]) -> &[u8]
 
 /// Whether a key is a name that is filled with zero bytes.
 #[tactic(auto, unfolding(crate::specs::Text::is_filled_name))]
-fn is_filled_name(key: &Key) -> bool
+pub(crate) fn is_filled_name(key: &Key) -> bool
     ensures value { result ≡ is_filled_name key.now }
     ensures name { IsTrue result → IsTrue (is_name (name_of key.now)) }
 {
@@ -64,4 +64,25 @@ fn hex_text(alloc: Global, key: &Key) -> Result<String, AllocError>
 {
     let digits = hex::encode(alloc, key)?;
     format!(in alloc; "0x{digits}")
+}
+
+/// The 64 digits of 32 bytes, in lower case.
+pub(crate) fn hex_digits(bytes: &[u8; 32]) -> [u8; 64]
+    ensures { result ≡ encode_lower bytes.now }
+{
+    let mut digits = [0; 64];
+    match hex::encode_to_slice(bytes, &mut digits) {
+        Ok(()) => digits,
+        Err(_) => unreachable!(),
+    }
+}
+
+/// The digits of a key behind `0x`.
+pub(crate) fn hex_key(key: &Key) -> [u8; 66]
+    ensures { result ≡ codes "0x" ++ encode_lower key.now }
+{
+    let mut text = [0; 66];
+    text[..2].copy_from_slice(b"0x");
+    text[2..].copy_from_slice(&hex_digits(key));
+    text
 }

@@ -20,6 +20,7 @@ mod following;
 mod key_text;
 mod local;
 mod outcome;
+mod printable;
 mod program;
 mod reading;
 mod report_text;

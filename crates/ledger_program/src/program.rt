@@ -1,9 +1,9 @@
 //! The call that does what the words say, over a job that is read and a sink that is written to.
 ghost use Rattle.std.specs.Prelude.{◌≡◌, ◌≤◌, ◌==◌, ◌⊎◌, Option, Some, None, true, false, not, map, IfOk, IfErr, IfSome, IsSome, OnOk, string_bytes};
-ghost use Rattle.std.specs.Io.KnownBytes.{IsAtEnd};
+ghost use Rattle.std.specs.Io.KnownBytes.{Appends, IsAtEnd};
 ghost use Rattle.ledger_codec.specs.Causes.{Rose};
 ghost use Rattle.ledger_program.specs.ErrorLines.{line_of};
-ghost use Rattle.ledger_program.specs.Run.{is_form, status_of, IsJob, ReadFails, Attempted, Followed, Wrote, WriteFails, IsEarly, IsLate, Caused, Completes, has_report, is_read};
+ghost use Rattle.ledger_program.specs.Run.{is_form, status_of, IsJob, ReadFails, Attempted, Followed, Wrote, LineWent, LineOut, WriteFails, IsEarly, IsLate, Caused, Completes, has_report, is_read};
 ghost use Rattle.ledger_program.specs.Writing.{AppendsFront};
 ghost use Rattle.ledger_program.specs.declared.outcome.RunFault.TheVariants.{Output};
 
@@ -65,7 +65,7 @@ fn attempt<R: RandomSource + Threads + Sync, S: Source>(
     source: &mut S,
 ) -> Result<Report<Sequenced>, RunFault>
     ensures form { OnOk result (is_form (map string_bytes words.now) ≡ true) }
-    ensures followed { IfOk result (λ report. IfSome (S.left source.old) (λ text. Followed text report)) }
+    ensures followed { IfOk result (Followed (S.left source.old)) }
     ensures ended { OnOk result (IsAtEnd (S.left source.new)) }
     ensures fails { IfErr result (Attempted (is_form (map string_bytes words.now)) (S.left source.old) (S.faults source.old) (S.faults source.new)) }
     ensures read { IfErr result (λ fault. is_read (Some fault) ≡ true → IsAtEnd (S.left source.new)) }
@@ -105,24 +105,25 @@ fn write_report<K: Sink>(
 }
 
 /// Writes the line of a fault, as far as the sink takes it.
-fn write_line<K: Sink>(alloc: Global, fault: &RunFault, out: &mut K)
+fn write_line<K: Sink>(fault: &RunFault, out: &mut K)
     ensures front { AppendsFront (K.written out.old) (K.written out.new) (line_of fault.now) }
+    ensures whole { LineWent K.grows (K.faults out.old) (K.faults out.new)
+        (Appends (K.written out.old) (K.written out.new) (line_of fault.now)) }
     ensures later { K.faults out.old ≤ K.faults out.new }
 {
-    if let Ok(line) = error_line(alloc, fault) {
-        let _written = write_all(out, line.as_bytes());
-    }
+    let _written = error_line(out, fault);
 }
 
 /// The outcome of a run without a report.
-fn refused<K: Sink>(alloc: Global, fault: RunFault, out: &mut K) -> Outcome
+fn refused<K: Sink>(fault: RunFault, out: &mut K) -> Outcome
     requires { IsEarly fault }
     ensures status { result.status ≡ status_of (Some fault) }
     ensures report { result.report ≡ None }
     ensures fault { result.fault ≡ Some fault }
     ensures wrote { Wrote (K.written out.old) (K.written out.new) None (Some fault) }
+    ensures line { LineOut K.grows (K.written out.old) (K.written out.new) (K.faults out.old) (K.faults out.new) None fault }
 {
-    write_line(alloc, &fault, out);
+    write_line(&fault, out);
     Outcome {
         status: status_of(&fault),
         report: None,
@@ -137,6 +138,8 @@ fn printed<K: Sink>(alloc: Global, report: Report<Sequenced>, out: &mut K) -> Ou
     ensures fault { IfSome result.fault IsLate }
     ensures wrote { Wrote (K.written out.old) (K.written out.new) (Some report) result.fault }
     ensures output { result.fault ≡ Some Output → Rose (K.faults out.old) (K.faults out.new) }
+    ensures line { IfSome result.fault
+        (LineOut K.grows (K.written out.old) (K.written out.new) (K.faults out.old) (K.faults out.new) result.report) }
 {
     let fault = match write_report(alloc, &report, out) {
         Ok(()) => {
@@ -148,7 +151,7 @@ fn printed<K: Sink>(alloc: Global, report: Report<Sequenced>, out: &mut K) -> Ou
         }
         Err(fault) => fault,
     };
-    write_line(alloc, &fault, out);
+    write_line(&fault, out);
     Outcome {
         status: status_of(&fault),
         report: Some(report),
@@ -166,18 +169,20 @@ fn act<R: RandomSource + Threads + Sync, S: Source, K: Sink>(
     out: &mut K,
 ) -> Outcome
     ensures status { result.status ≡ status_of result.fault }
-    ensures followed { IfSome result.report (λ report. IfSome (S.left job.old) (λ text. Followed text report)) }
+    ensures followed { IfSome result.report (Followed (S.left job.old)) }
     ensures reported { has_report result.fault ≡ true → IsSome result.report }
     ensures unreported { IfSome result.fault (λ fault. IsEarly fault → (result.status ≡ 11) ⊎ (result.report ≡ None)) }
     ensures usage { (result.status == 2) ≡ not (is_form (map string_bytes words.now)) }
     ensures caused { IfSome result.fault (Caused (is_form (map string_bytes words.now)) (S.left job.old) (S.faults job.old) (S.faults job.new) (K.faults out.old) (K.faults out.new)) }
     ensures read { is_read result.fault ≡ true → IsAtEnd (S.left job.new) }
     ensures wrote { Wrote (K.written out.old) (K.written out.new) result.report result.fault }
+    ensures line { IfSome result.fault
+        (LineOut K.grows (K.written out.old) (K.written out.new) (K.faults out.old) (K.faults out.new) result.report) }
     ensures unread { is_form (map string_bytes words.now) ≡ false → job.new ≡ job.old }
 {
     match attempt(rt, alloc, words, job) {
         Ok(report) => printed(alloc, report, out),
-        Err(fault) => refused(alloc, fault, out),
+        Err(fault) => refused(fault, out),
     }
 }
 
@@ -194,12 +199,14 @@ pub fn run<R: RandomSource + Threads + Sync, S: Source, D: Dialer, K: Sink>(
     ensures status { result.status ≡ status_of result.fault }
     ensures usage { (result.status == 2) ≡ not (is_form (map string_bytes words.now)) }
     ensures complete { Completes (is_form (map string_bytes words.now)) (S.left job.old) (S.faults job.old) (S.faults job.new) (K.faults out.old) (K.faults out.new) result.status }
-    ensures followed { IfSome result.report (λ report. IfSome (S.left job.old) (λ text. Followed text report)) }
+    ensures followed { IfSome result.report (Followed (S.left job.old)) }
     ensures reported { has_report result.fault ≡ true → IsSome result.report }
     ensures unreported { IfSome result.fault (λ fault. IsEarly fault → (result.status ≡ 11) ⊎ (result.report ≡ None)) }
     ensures caused { IfSome result.fault (Caused (is_form (map string_bytes words.now)) (S.left job.old) (S.faults job.old) (S.faults job.new) (K.faults out.old) (K.faults out.new)) }
     ensures read { is_read result.fault ≡ true → IsAtEnd (S.left job.new) }
     ensures wrote { Wrote (K.written out.old) (K.written out.new) result.report result.fault }
+    ensures line { IfSome result.fault
+        (LineOut K.grows (K.written out.old) (K.written out.new) (K.faults out.old) (K.faults out.new) result.report) }
     ensures unread { is_form (map string_bytes words.now) ≡ false → job.new ≡ job.old }
     ensures undialed { _dialer.new ≡ _dialer.old }
 {

@@ -1,12 +1,13 @@
 //! The log that a job serves.
 ghost use Rattle.std.specs.Prelude.{◌≡◌, [], All, IfOk, OnOk};
 ghost use Rattle.ledger_log.specs.Any.{IsSoundAny};
+ghost use Rattle.ledger_log.specs.declared.any.AnyOp.TheVariants.{Update};
 ghost use Rattle.ledger_program.specs.Served.{update_of, served, IsServedList, IsLongOrMemory};
 ghost use Rattle.ledger_settling.specs.Reports.{IsWhole};
 
 use ledger_codec::OutOfMemory;
 use ledger_job::Open;
-use ledger_log::{AnyFamily, AnyOp, Log, LogFault};
+use ledger_log::{AnyFamily, AnyOp, Key, Log, LogFault, Value};
 use ledger_managed::AccountValue;
 use ledger_merkle::{Location, Sha256Hasher};
 use ledger_transfers::Sequenced;
@@ -19,7 +20,15 @@ fn update(account: &Open) -> AnyOp
 {
     let balance = account.balance;
     let nonce = account.nonce;
-    AnyOp::Update(account.key, Sequenced { balance, nonce }.to_value())
+    written(account.key, Sequenced { balance, nonce }.to_value())
+}
+
+/// An Update of bytes that are owned, of which their types say that they are 32.
+fn written(key: Key, value: Value) -> AnyOp
+    ensures is { result ≡ Update key value }
+    ensures sound { IsSoundAny result }
+{
+    AnyOp::Update(key, value)
 }
 
 /// The operations of the log that a job serves: a commit, one Update an `open` line, and a commit.

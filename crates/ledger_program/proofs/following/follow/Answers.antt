@@ -3,7 +3,7 @@ use Rattle.ledger_program.specs.Follow.{idle, beginning, FollowFails, FollowsLog
 use Rattle.ledger_settling.specs.Blocks.{meaning}
 use Rattle.sync_client.proofs.SentOperations.{any_sent}
 use Rattle.ledger_program.proofs.Sessions.{may_stop_from, stopped_from, no_report_from, begins_so, session_served, report_served}
-use Rattle.ledger_program.proofs.Validity.{only_memory}
+use Rattle.ledger_program.proofs.Validity.{only_memory, range_written}
 use Rattle.ledger_program.proofs.following.follow.Goals as goal
 
 pub sync_fault-requires : goal.sync_fault-requires
@@ -50,17 +50,19 @@ returns-in-Ok-report_of-clause-serving g c held h told =
     (c.in-Ok-report_of.ensures.kept ∙ own.ops, c.in-Ok-report_of.ensures.pinned ∙ own.pinned)
 
 pub returns-in-Err-clause-complete : goal.returns-in-Err-clause-complete
-returns-in-Err-clause-complete g c held h told amounts valid still =
+returns-in-Err-clause-complete g c held h told valid still =
+    let value = g.met.A.AccountValue g.world.𝓛 g.world.𝓜 g.world.𝓡 ((λ s x. x), (λ x. x), (λ x. x), λ x. x) in
     let m = meaning g.T.Transfer.changes_of g.A.PartialEq.eq g.A.Account.rules g.A.AccountValue.values in
     let o = beginning c.args.target.now c.args.limits.now (g.L.Link.wire c.args.link.now) (g.L.Link.faults c.args.link.now) in
-    only_memory m h.log c.args.target.now c.args.blocks.now o (g.L.Link.wire c.sync_hashed.new.link) (g.L.Link.faults c.sync_hashed.new.link) c.sync_fault.result amounts valid still
+    only_memory m value.value_laws h.log c.args.target.now c.args.blocks.now o (g.L.Link.wire c.sync_hashed.new.link) (g.L.Link.faults c.sync_hashed.new.link) c.sync_fault.result (range_written m h.log c.args.target.now h.ops) valid still
     (returns-in-Err-clause-serving g c held h told) (returns-in-Err-clause-fails g c)
 
 pub returns-clause-complete : goal.returns-clause-complete
-returns-clause-complete g c held h told amounts valid still =
+returns-clause-complete g c held h told valid still =
+    let value = g.met.A.AccountValue g.world.𝓛 g.world.𝓜 g.world.𝓡 ((λ s x. x), (λ x. x), (λ x. x), λ x. x) in
     let m = meaning g.T.Transfer.changes_of g.A.PartialEq.eq g.A.Account.rules g.A.AccountValue.values in
     let o = beginning c.args.target.now c.args.limits.now (g.L.Link.wire c.args.link.now) (g.L.Link.faults c.args.link.now) in
-    only_memory m h.log c.args.target.now c.args.blocks.now o (g.L.Link.wire c.sync_hashed.new.link) (g.L.Link.faults c.sync_hashed.new.link) c.from.result amounts valid still
+    only_memory m value.value_laws h.log c.args.target.now c.args.blocks.now o (g.L.Link.wire c.sync_hashed.new.link) (g.L.Link.faults c.sync_hashed.new.link) c.from.result (range_written m h.log c.args.target.now h.ops) valid still
     (returns-clause-serving g c held h told) (returns-clause-fails g c)
 
 pub returns-in-Ok-report_of-clause-rests : goal.returns-in-Ok-report_of-clause-rests
