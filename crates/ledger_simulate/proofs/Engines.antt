@@ -88,7 +88,7 @@ abbrev started_seat : {D E S : Type 0} → List (Peer × Seat D E S) → Peer �
 started_seat old pk running = record { starts = min (starts_in (lookup (is_at (peer_cmp pk)) old) + 1) (2 ^ 32 - 1); running = Some running }
 
 -- an engine that was started under a number not below this one
-pub survives_start : {D E S : Type 0} (peer_of : E → Peer) (made : InitContext → E → Type 0) (journal : Option (E → List (StepEvent × StepOut))) (participants : List Peer) (start : Start) (n : ℕ) (old new : List (Peer × Seat D E S)) → Starts peer_of made journal participants start old new → n ≤ start.birth → Survives n old new
+pub survives_start : {D E S : Type 0} (peer_of : E → Peer) (made : InitContext → E × S → Type 0) (journal : Option (E → List (StepEvent × StepOut))) (participants : List Peer) (start : Start) (n : ℕ) (old new : List (Peer × Seat D E S)) → Starts peer_of made journal participants start old new → n ≤ start.birth → Survives n old new
 survives_start {D} {E} {S} peer_of made journal participants start n old new started above =
     subst (Survives n old) (sym started.put) (λ q r at below. by_peer q r below (is_eq (peer_cmp q start.pk)) refl at)
   where
@@ -106,7 +106,7 @@ seated_up peer_of n m seats up seated = λ q r at.
     let below : r.birth < n = both.1 in
     (both.0, omega arith)
 
-pub seated_start : {D E S : Type 0} (peer_of : E → Peer) (made : InitContext → E → Type 0) (journal : Option (E → List (StepEvent × StepOut))) (participants : List Peer) (start : Start) (n m : ℕ) (old new : List (Peer × Seat D E S)) → Starts peer_of made journal participants start old new → start.birth < m → n ≤ m → Seated peer_of n old → Seated peer_of m new
+pub seated_start : {D E S : Type 0} (peer_of : E → Peer) (made : InitContext → E × S → Type 0) (journal : Option (E → List (StepEvent × StepOut))) (participants : List Peer) (start : Start) (n m : ℕ) (old new : List (Peer × Seat D E S)) → Starts peer_of made journal participants start old new → start.birth < m → n ≤ m → Seated peer_of n old → Seated peer_of m new
 seated_start {D} {E} {S} peer_of made journal participants start n m old new started inside up seated =
     subst (Seated peer_of m) (sym started.put) (λ q r at. by_peer q r (is_eq (peer_cmp q start.pk)) refl at)
   where

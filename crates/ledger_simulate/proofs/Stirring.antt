@@ -94,7 +94,7 @@ module _ {D E S : Type 0} (peer_of : E → Peer) where
   }
 
   -- a peer was started under the number of the event that was made
-  pub disturbs_start : (made : InitContext → E → Type 0) (journal : Option (E → List (StepEvent × StepOut))) (participants : List Peer) (start : Start) (a b : AgendaView) (e : ℕ × Event) (u v : World D E S) → Starts peer_of made journal participants start u.seats.entries v.seats.entries → start.birth ≡ number_after a → b ≡ record a { events = a.events ++ e ∷ [] } → IsTrue (is_quiet e.1) → v.rules ≡ u.rules → v.words ≡ u.words → v.links ≡ u.links → Disturbs peer_of a b u v
+  pub disturbs_start : (made : InitContext → E × S → Type 0) (journal : Option (E → List (StepEvent × StepOut))) (participants : List Peer) (start : Start) (a b : AgendaView) (e : ℕ × Event) (u v : World D E S) → Starts peer_of made journal participants start u.seats.entries v.seats.entries → start.birth ≡ number_after a → b ≡ record a { events = a.events ++ e ∷ [] } → IsTrue (is_quiet e.1) → v.rules ≡ u.rules → v.words ≡ u.words → v.links ≡ u.links → Disturbs peer_of a b u v
   disturbs_start made journal participants start a b e u v started birth put quiet rules words links =
       let long : length b.events ≡ length a.events + 1 = ap (λ (x : AgendaView). length x.events) put ∙ length-append a.events (e ∷ []) in
       let next : b.next ≡ a.next = ap (λ (x : AgendaView). x.next) put in

@@ -54,6 +54,8 @@ impl EngineDefinition for Script {
 
     ghost peer_of = { λ _ engine. engine };
 
+    ghost taking_part = { λ _. None };
+
     ghost carried_on = { λ _. Some (0 ∷ []) };
 
     ghost carried_size = { λ _. Some 64 };
@@ -326,7 +328,7 @@ fn ends_where_a_window_is_skipped(rt: HostRuntime) -> Result<(), OutOfMemory> {
 
 /// Ends a run once two validators have reported.
 #[derive(Drop)]
-struct TwoTracked;
+pub struct TwoTracked;
 
 impl ExitCondition for TwoTracked {
     ghost use Rattle.std.specs.Prelude.{Ok, codes, length, nat_le};
@@ -337,6 +339,10 @@ impl ExitCondition for TwoTracked {
 
     fn name(&self) -> &str {
         "two_tracked"
+    }
+
+    fn requires_polling(&self) -> bool {
+        false
     }
 
     fn reached(
@@ -418,6 +424,8 @@ impl EngineDefinition for Gossip {
     type State = bool;
 
     ghost peer_of = { λ _ engine. engine };
+
+    ghost taking_part = { λ _. None };
 
     ghost carried_on = { λ _. Some (0 ∷ []) };
 

@@ -26,7 +26,7 @@ made_same made start n m ps qs engine count names told =
     subst (λ xs. made (told_to start m xs) engine) names (subst (λ k. made (told_to start k ps) engine) count told)
 
 -- one participant more, or none, that is started after these
-pub starts_then : {D E S : Type 0} (peer_of : E → Peer) (made : InitContext → E → Type 0) (journal : Option (E → List (StepEvent × StepOut))) (participants : List Peer) (fault : FaultConfig) (ps qs : List Peer) (a b c : List (Peer × Seat D E S)) → StartsAll peer_of made journal participants fault ps a b → StartsAll peer_of made journal participants fault qs b c → StartsAll peer_of made journal participants fault (ps ++ qs) a c
+pub starts_then : {D E S : Type 0} (peer_of : E → Peer) (made : InitContext → E × S → Type 0) (journal : Option (E → List (StepEvent × StepOut))) (participants : List Peer) (fault : FaultConfig) (ps qs : List Peer) (a b c : List (Peer × Seat D E S)) → StartsAll peer_of made journal participants fault ps a b → StartsAll peer_of made journal participants fault qs b c → StartsAll peer_of made journal participants fault (ps ++ qs) a c
 starts_then peer_of made journal participants fault [] qs a b c same rest =
     subst (λ x. StartsAll peer_of made journal participants fault qs x c) same rest
 starts_then peer_of made journal participants fault (p ∷ ps) qs a b c first rest =
@@ -45,7 +45,7 @@ others_then delayed ps i =
     ∙ filter-append (λ p. not (names delayed p)) (take i ps) (option_to_list (slice_get ps i))
 
 -- one place more of the participants
-pub starts_more : {D E S : Type 0} (peer_of : D → E → Peer) (made : D → InitContext → E → Type 0) (journal : D → Option (E → List (StepEvent × StepOut))) (fault : FaultConfig) (delayed : List Peer) (d0 d : D) (ps0 ps : List Peer) (i : ℕ) (a b c : List (Peer × Seat D E S)) → ps ≡ ps0 → d ≡ d0 → StartsAll (peer_of d0) (made d0) (journal d0) ps0 fault (others delayed (take i ps0)) a b → StartsAll (peer_of d) (made d) (journal d) ps fault (others delayed (option_to_list (slice_get ps i))) b c → StartsAll (peer_of d0) (made d0) (journal d0) ps0 fault (others delayed (take (i + 1) ps0)) a c
+pub starts_more : {D E S : Type 0} (peer_of : D → E → Peer) (made : D → InitContext → E × S → Type 0) (journal : D → Option (E → List (StepEvent × StepOut))) (fault : FaultConfig) (delayed : List Peer) (d0 d : D) (ps0 ps : List Peer) (i : ℕ) (a b c : List (Peer × Seat D E S)) → ps ≡ ps0 → d ≡ d0 → StartsAll (peer_of d0) (made d0) (journal d0) ps0 fault (others delayed (take i ps0)) a b → StartsAll (peer_of d) (made d) (journal d) ps fault (others delayed (option_to_list (slice_get ps i))) b c → StartsAll (peer_of d0) (made d0) (journal d0) ps0 fault (others delayed (take (i + 1) ps0)) a c
 starts_more peer_of made journal fault delayed d0 d ps0 ps i a b c same_peers same_definition first next =
     let moved : StartsAll (peer_of d0) (made d0) (journal d0) ps0 fault (others delayed (option_to_list (slice_get ps0 i))) b c =
     subst (λ x. StartsAll (peer_of x) (made x) (journal x) ps0 fault (others delayed (option_to_list (slice_get ps0 i))) b c) same_definition

@@ -47,13 +47,13 @@ context_of participants start seats = record {
   fault = start.fault;
 }
 
--- the peer has a new engine, which `init` made of the start's context
-pub record Starts {D E S : Type 0} (peer_of : E → Peer) (made : InitContext → E → Type 0) (journal : Option (E → List (StepEvent × StepOut))) (participants : List Peer) (start : Start) (old new : List (Peer × Seat D E S)) : Type 0 where
+-- the peer has a new engine and its state, which one `init` made of the start's context
+pub record Starts {D E S : Type 0} (peer_of : E → Peer) (made : InitContext → E × S → Type 0) (journal : Option (E → List (StepEvent × StepOut))) (participants : List Peer) (start : Start) (old new : List (Peer × Seat D E S)) : Type 0 where
   pub running : Running D E S
   pub put : new ≡ insert_entry peer_cmp old start.pk (record { starts = min (starts_in (lookup (is_at (peer_cmp start.pk)) old) + 1) (2 ^ 32 - 1); running = Some running })
   pub birth : running.birth ≡ start.birth
   pub peer : peer_of running.engine ≡ start.pk
-  pub made_of : made (context_of participants start old) running.engine
+  pub made_of : made (context_of participants start old) (running.engine, running.state)
   pub told : IfSome journal (λ j. j running.engine ≡ [])
 
 -- the engine of a seat took a step: its journal has grown by this event and what it

@@ -40,7 +40,7 @@ abbrev pub others : List Peer → List Peer → List Peer
 others delayed participants = filter (λ p. not (names delayed p)) participants
 
 -- these participants are started one after the other
-abbrev pub StartsAll : {D E S : Type 0} → (E → Peer) → (InitContext → E → Type 0) → Option (E → List (StepEvent × StepOut)) → List Peer → FaultConfig → List Peer → List (Peer × Seat D E S) → List (Peer × Seat D E S) → Type 0
+abbrev pub StartsAll : {D E S : Type 0} → (E → Peer) → (InitContext → E × S → Type 0) → Option (E → List (StepEvent × StepOut)) → List Peer → FaultConfig → List Peer → List (Peer × Seat D E S) → List (Peer × Seat D E S) → Type 0
 StartsAll peer_of made journal participants fault [] old new = new ≡ old
 StartsAll {D} {E} {S} peer_of made journal participants fault (p ∷ ps) old new =
     (mid : List (Peer × Seat D E S)) × Starts peer_of made journal participants (start_of participants false fault p) old mid × StartsAll peer_of made journal participants fault ps mid new

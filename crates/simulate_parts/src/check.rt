@@ -1,5 +1,5 @@
 //! What a run is asked: when it ends, and whether it went well.
-ghost use Rattle.std.specs.Prelude.{◌≡◌, ℕ, Bool, List, Option, Result};
+ghost use Rattle.std.specs.Prelude.{◌≡◌, ℕ, Bool, List, Option, Result, false};
 ghost use Rattle.simulate_parts.specs.Checks.{Answers, Passes};
 ghost use Rattle.simulate_parts.specs.TrackerView.{TrackerView};
 ghost use Rattle.simulate_parts.specs.declared.engine.StateView.{StateView};
@@ -15,10 +15,12 @@ pub enum CheckFault {
     OutOfMemory,
 }
 
-/// When a run ends. Contracts know a condition by its name and its verdict, which is an answer or the
-/// text of a failure.
+/// When a run ends. Contracts know a condition by its name, by whether it is polled, and by its verdict,
+/// which is an answer or the text of a failure.
 pub trait ExitCondition: Drop {
     ghost exit_name: { Self → List ℕ };
+
+    ghost exit_polls: { Self → Bool } = { λ _. false };
 
     ghost exit_verdict: { Self → TrackerView → List StateView → ℕ → Result Bool (List ℕ) };
 
@@ -27,9 +29,8 @@ pub trait ExitCondition: Drop {
         ensures { result.now ≡ exit_name self.now };
 
     /// Whether the condition is also asked every 25 ms, and not after reports alone.
-    fn requires_polling(&self) -> bool {
-        false
-    }
+    fn requires_polling(&self) -> bool
+        ensures { result ≡ exit_polls self.now };
 
     /// Whether the run ends here, by the reports so far, the states of the running peers in ascending
     /// order of peers, and the number of participants that count.

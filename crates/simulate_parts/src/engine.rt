@@ -151,10 +151,10 @@ pub struct StateView {
 
 /// The engines of a run: how they are made and stepped.
 ///
-/// Beside its calls a definition tells the peer of an engine, and it may tell contracts five things: the
-/// channels, the greatest size of a message, what `init` makes of a context, a test that each reported block
-/// passes, and the journal of an engine, which is the list of the events that it was stepped with and of what
-/// it gave.
+/// Beside its calls a definition tells the peer of an engine, and it may tell contracts six things: the
+/// participants, the channels, the greatest size of a message, which engine and state `init` makes of a
+/// context, a test that each reported block passes, and the journal of an engine, which is the list of the
+/// events that it was stepped with and of what it gave.
 pub trait EngineDefinition: Drop {
     type Engine: Drop;
 
@@ -162,11 +162,13 @@ pub trait EngineDefinition: Drop {
 
     ghost peer_of: { Self → Self.Engine → Peer };
 
+    ghost taking_part: { Self → Option (List Peer) };
+
     ghost carried_on: { Self → Option (List ℕ) };
 
     ghost carried_size: { Self → Option ℕ };
 
-    ghost made: { Self → InitContext → Self.Engine → Type 0 };
+    ghost made: { Self → InitContext → Self.Engine × Self.State → Type 0 };
 
     ghost reports: { Self → Option (FinalizationUpdate → Bool) };
 
@@ -174,7 +176,8 @@ pub trait EngineDefinition: Drop {
 
     /// The peers that take part, each once.
     fn participants(&self, alloc: Global) -> Result<Vec<Peer>, OutOfMemory>
-        ensures { IfOk result (λ peers. DistinctPeers peers.items) };
+        ensures distinct { IfOk result (λ peers. DistinctPeers peers.items) }
+        ensures told { IfOk result (λ peers. IfSome (taking_part self.now) (λ told. peers.items ≡ told)) };
 
     /// The channels on which messages may be sent.
     fn channels(&self, alloc: Global) -> Result<Vec<u64>, OutOfMemory>
@@ -191,7 +194,7 @@ pub trait EngineDefinition: Drop {
         context: &InitContext,
     ) -> Result<(Self::Engine, Self::State), OutOfMemory>
         ensures peer { IfOk result (λ pair. peer_of self.now pair.0 ≡ context.now.public_key) }
-        ensures made_of { IfOk result (λ pair. made self.now context.now pair.0) }
+        ensures made_of { IfOk result (λ pair. made self.now context.now pair) }
         ensures told { IfOk result (λ pair. IfSome (journal self.now) (λ told. told pair.0 ≡ [])) };
 
     /// Steps an engine with an event. What it gives goes into `out`.

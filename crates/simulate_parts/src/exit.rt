@@ -1,5 +1,5 @@
 //! The two exit conditions that are shipped.
-ghost use Rattle.std.specs.Prelude.{◌≡◌, Ok, codes, false, true};
+ghost use Rattle.std.specs.Prelude.{◌≡◌, Ok, codes, true};
 ghost use Rattle.simulate_parts.specs.Checks.{processed_by_all, reached_by_all};
 
 use crate::check::{CheckFault, ExitCondition};
@@ -39,9 +39,7 @@ impl ExitCondition for MinimumFinalizations {
         "minimum_finalizations"
     }
 
-    fn requires_polling(&self) -> bool
-        ensures { result ≡ false }
-    {
+    fn requires_polling(&self) -> bool {
         false
     }
 
@@ -81,15 +79,15 @@ impl ProcessedHeightAtLeast {
 impl ExitCondition for ProcessedHeightAtLeast {
     ghost exit_name = { λ _. codes "processed_height_at_least" };
 
+    ghost exit_polls = { λ _. true };
+
     ghost exit_verdict = { λ required tracker states target_count. Ok (processed_by_all states target_count required) };
 
     fn name(&self) -> &str {
         "processed_height_at_least"
     }
 
-    fn requires_polling(&self) -> bool
-        ensures { result ≡ true }
-    {
+    fn requires_polling(&self) -> bool {
         true
     }
 

@@ -154,6 +154,8 @@ impl EngineDefinition for Idle {
 
     ghost peer_of = { λ _ engine. engine };
 
+    ghost taking_part = { λ _. None };
+
     ghost carried_on = { λ _. Some [] };
 
     ghost carried_size = { λ _. Some 0 };
