@@ -28,8 +28,8 @@ use Rattle.ledger_simulate.proofs.Causing.{same_end}
 use Rattle.ledger_simulate.specs.declared.fault.PlanFault.{PlanFault}
 use Rattle.ledger_simulate.specs.declared.fault.PlanFault.TheVariants.{EventLimit, Exit, FinalizationProperty, Fork, Idle, NotExercised, Property, SkippedWindow, Timeout}
 use Rattle.ledger_simulate.specs.Results.{EndedView}
-use Rattle.ledger_simulate.specs.declared.result.SimEnd.{SimEnd}
-use Rattle.ledger_simulate.specs.declared.result.SimEnd.TheVariants.{Fault as at_fault}
+use Rattle.ledger_simulate.specs.declared.simulation.SimEnd.{SimEnd}
+use Rattle.ledger_simulate.specs.declared.simulation.SimEnd.TheVariants.{Fault as at_fault}
 use Rattle.ledger_simulate.specs.declared.fault.Stop.{Stop}
 use Rattle.ledger_simulate.specs.declared.fault.Stop.TheVariants.{Fault, OutOfMemory}
 

@@ -14,3 +14,4 @@ pub mod Stirring
 pub mod Striking
 pub mod Turning
 pub mod Watching
+pub mod Whole

@@ -12,4 +12,5 @@ pub mod Queue
 pub mod Reaching
 pub mod Results
 pub mod Runs
+pub mod Stepping
 pub mod Stops

@@ -19,10 +19,12 @@ mod exercise;
 mod fault;
 mod links;
 mod messages;
+mod opening;
 mod plan;
 mod queue;
+#[cfg(test)]
+mod replays;
 mod reports;
-mod result;
 mod run;
 mod simulation;
 mod spelling;
@@ -34,7 +36,6 @@ mod world;
 pub use event::Event;
 pub use fault::PlanFault;
 pub use plan::{Plan, PlanBuilder};
-pub use result::{Ended, PlanResult, SimEnd};
 pub use simulate_parts::{
     Action, Activity, CheckFault, Crash, EngineDefinition, ExitCondition, FaultConfig,
     FinalizationProperty, FinalizationUpdate, Fraction, InitContext, MinimumFinalizations,
@@ -42,4 +43,4 @@ pub use simulate_parts::{
     Property, Reporter, Round, Schedule, SimLink, StateView, StepEvent, StepOut, Team, dkg, draw,
     orchestrator, probe,
 };
-pub use simulation::{Simulation, Stepped};
+pub use simulation::{Ended, PlanResult, SimEnd, Simulation, Stepped};

@@ -1,5 +1,5 @@
 //! What a run is made of.
-ghost use Rattle.std.specs.Prelude.{◌≡◌, ◌≤◌, ◌++◌, ◌∷◌, [], ◌≢◌, IfOk, IsTrue, None, Some, false, not};
+ghost use Rattle.std.specs.Prelude.{◌≡◌, ◌≤◌, ◌++◌, ◌∷◌, [], ◌≢◌, IfOk, IfSome, IsTrue, None, Some, false, not};
 ghost use Rattle.std.specs.List.{list_any};
 ghost use Rattle.simulate_parts.specs.Engine.{DistinctPeers};
 ghost use Rattle.ledger_simulate.specs.Plans.{delays, first_or, fits_beside, strikes_at_random};
@@ -43,6 +43,7 @@ impl<D: EngineDefinition> PlanBuilder<D> {
     pub fn new(alloc: Global, engine: D) -> Result<Self, OutOfMemory>
         ensures engine { IfOk result (λ b. b.plan.engine ≡ engine) }
         ensures distinct { IfOk result (λ b. DistinctPeers b.plan.participants) }
+        ensures participants { IfOk result (λ b. IfSome (D.taking_part engine) (λ told. b.plan.participants ≡ told)) }
         ensures nothing { IfOk result (λ b. (b.plan.crashes ≡ []) × (b.plan.exit_condition ≡ None) × (b.plan.timeout ≡ None) × (b.plan.storage_fault ≡ None) × (b.plan.finalization_property ≡ []) × (b.plan.property ≡ [])) }
         ensures numbers { IfOk result (λ b. (b.plan.required_finalizations ≡ 10) × (b.plan.max_events ≡ 1000000) × (b.plan.link.latency ≡ 10) × (b.plan.link.jitter ≡ 5) × (b.plan.link.success.num ≡ 1) × (b.plan.link.success.den ≡ 1)) }
         ensures seeds { IfOk result (λ b. (b.plan.seed ≡ 0) × (b.seeds ≡ 0 ∷ [])) }

@@ -1,53 +1,47 @@
 //! A run, one event at a time.
-ghost use Rattle.std.specs.Prelude.{◌≡◌, ◌<◌, ◌+◌, ◌++◌, ◌∷◌, [], ℕ, Bool, Err, IfErr, IfOk, IfSome, IsTrue, None, Ok, OnOk, Some, drop, false, length, map, take};
-ghost use Rattle.std.specs.List.{flat_map};
-ghost use Rattle.rand_core.specs.Pcg32Seed.{pcg32_seed};
-ghost use Rattle.rand_pcg.specs.Pcg.{pcg32_of_seed};
+ghost use Rattle.std.specs.Prelude.{◌≡◌, ◌<◌, ◌+◌, ◌++◌, ◌∷◌, [], ℕ, Err, IfErr, IfOk, IfSome, IsTrue, None, Ok, OnOk, Some, drop, false, length, take};
+ghost use Rattle.std.specs.Option.{option_map_or};
 ghost use Rattle.simulate_parts.specs.Engine.{updates_of};
 ghost use Rattle.simulate_parts.specs.Seats.{active_views, runs};
-ghost use Rattle.simulate_parts.specs.Team.{others};
 ghost use Rattle.simulate_parts.specs.Tracker.{first_fault, tracker_of};
 ghost use Rattle.simulate_parts.specs.declared.engine.StepOut.{StepOut};
 ghost use Rattle.ledger_simulate.specs.Answering.{Answered, Asked, Asks, Ends, EndsAt, MetOn, MissesAt, ReportsThen, SeesAfter, SkipsAfter, StopAnswered};
 ghost use Rattle.ledger_simulate.specs.Causes.{Comes, EndComes, StopComes, stops_asked};
 ghost use Rattle.ledger_simulate.specs.Delays.{started_after, started_by, started_where};
 ghost use Rattle.ledger_simulate.specs.Exercise.{missed_by};
-ghost use Rattle.ledger_simulate.specs.Failures.{no_tally, tally_of};
-ghost use Rattle.ledger_simulate.specs.Handling.{Disturbs, Gives, Grows, Handles, Seated, Stirs, Tells, birth_at, told_by, told_first};
-ghost use Rattle.ledger_simulate.specs.Links.{changed_links, common_link};
-ghost use Rattle.ledger_simulate.specs.Opening.{actions_of, first_poll, first_tick, opening, starts};
-ghost use Rattle.ledger_simulate.specs.Plans.{Runs, named_late, target_count};
-ghost use Rattle.ledger_simulate.specs.Queue.{empty_agenda, empty_queue, first_key, queued_all};
+ghost use Rattle.ledger_simulate.specs.Failures.{tally_of};
+ghost use Rattle.ledger_simulate.specs.Handling.{Gives, Grows, Handles, Seated, Stirs, Tells, birth_at, told_by, told_first};
+ghost use Rattle.ledger_simulate.specs.Plans.{Runs, target_count};
+ghost use Rattle.ledger_simulate.specs.Queue.{empty_agenda, first_key, queued_all};
 ghost use Rattle.ledger_simulate.specs.Reaching.{IsReached};
 ghost use Rattle.ledger_simulate.specs.Results.{EndedView, ResultView, tally_shown};
 ghost use Rattle.ledger_simulate.specs.Runs.{Extends, Proceeds, ResultOf, Sound, Succeeds};
+ghost use Rattle.ledger_simulate.specs.Stepping.{Fails, Finishes, GoesOn, Opens, course_of};
 ghost use Rattle.ledger_simulate.specs.Stops.{early_fault, end_of, is_late, stops_late};
-ghost use Rattle.ledger_simulate.specs.declared.event.Event.TheVariants.{Act, ExitPoll};
+ghost use Rattle.ledger_simulate.specs.declared.event.Event.TheVariants.{ExitPoll};
 
 use crate::agenda::Agenda;
 use crate::asks::check_properties;
 use crate::event::Event;
 use crate::fault::{PlanFault, Stop};
 use crate::messages::{send_all, set_timers};
+use crate::opening::{EXIT_POLL, open};
 use crate::plan::Plan;
 use crate::queue::Queue;
 use crate::reports::{Reached, ask, reports_of, take_reports};
-use crate::result::{Ended, PlanResult, SimEnd};
 use crate::spelling::write_event;
 use crate::watch::Watch;
-use crate::world::{World, named_late_by};
-use ledger_codec::{List, OutOfMemory};
+use crate::world::World;
+use ledger_codec::{Digest as Hash, List, OutOfMemory};
 use rand_core::SeedableRng;
 use rand_pcg::Pcg32;
 use sha2::{Digest, Sha256};
 use simulate_parts::{
-    Action, Crash, EngineDefinition, FinalizationUpdate, Peer, ProgressTracker, StateView,
-    StepEvent, StepOut, active_states, is_among, is_current, step_engine,
+    EngineDefinition, FinalizationUpdate, Peer, ProgressTracker, StateView, StepEvent, StepOut,
+    active_states, is_current, step_engine,
 };
 use std::alloc::Global;
-
-/// How often the exit condition is polled, in milliseconds.
-const EXIT_POLL: u64 = 25;
+use std::marker::Model;
 
 /// A run under a seed. It is stepped from event to event, and a refused step gives it up.
 #[derive(Drop)]
@@ -69,21 +63,187 @@ pub enum Stepped<'a, D: EngineDefinition> {
     Done(PlanResult),
 }
 
+/// A run that met its exit condition without a fork, with every property held and every configured failure
+/// exercised. A step makes it alone: its fields are private to this module.
+#[derive(Drop)]
+pub struct PlanResult {
+    state: Hash,
+    watch: Watch,
+    reached: ProgressTracker,
+    states: Vec<StateView>,
+    entered: Vec<bool>,
+    crashes: u64,
+    scheduled_actions: u64,
+    delayed_started: bool,
+    seed: u64,
+    handled: u64,
+    max_events: u64,
+    timeout: Option<u64>,
+}
+
+impl Model for PlanResult {
+    ghost use Rattle.ledger_simulate.specs.Results.{ResultView};
+
+    ghost Value = { ResultView };
+
+    ghost view = { λ r. record { state = r.state; updates = r.watch; reached = r.reached; states = r.states.items; entered = r.entered.items; crashes = r.crashes; scheduled_actions = r.scheduled_actions; delayed_started = r.delayed_started; seed = r.seed; handled = r.handled; max_events = r.max_events; timeout = r.timeout } };
+}
+
+impl PlanResult {
+    ghost use Rattle.simulate_parts.specs.Tracker.{first_fault, tracker_of};
+
+    /// The SHA-256 of the handled events, in order.
+    pub fn state(&self) -> &Hash
+        ensures { result.now ≡ self.now.state }
+    {
+        &self.state
+    }
+
+    /// The tracker of all reports.
+    pub fn tracker(&self) -> &ProgressTracker
+        ensures value { result.now ≡ tracker_of self.now.updates }
+        ensures sound { first_fault self.now.updates ≡ None }
+    {
+        self.watch.tracker()
+    }
+
+    /// The tracker on which the exit condition answered true.
+    pub fn reached(&self) -> &ProgressTracker
+        ensures { result.now ≡ self.now.reached }
+    {
+        &self.reached
+    }
+
+    /// The states on which the exit condition answered true, which the properties saw too.
+    pub fn states(&self) -> &[StateView]
+        ensures { result.now ≡ self.now.states }
+    {
+        self.states.as_slice()
+    }
+
+    /// For each configured failure whether it is a window of heights that was entered.
+    pub fn entered(&self) -> &[bool]
+        ensures { result.now ≡ self.now.entered }
+    {
+        self.entered.as_slice()
+    }
+
+    /// The number of crashes that ran.
+    pub fn crashes(&self) -> u64
+        ensures { result ≡ self.now.crashes }
+    {
+        self.crashes
+    }
+
+    /// The number of scheduled actions that were applied.
+    pub fn scheduled_actions(&self) -> u64
+        ensures { result ≡ self.now.scheduled_actions }
+    {
+        self.scheduled_actions
+    }
+
+    /// Whether the delayed participants were started.
+    pub fn delayed_started(&self) -> bool
+        ensures { result ≡ self.now.delayed_started }
+    {
+        self.delayed_started
+    }
+
+    /// The seed of the run.
+    pub fn seed(&self) -> u64
+        ensures { result ≡ self.now.seed }
+    {
+        self.seed
+    }
+
+    /// The number of events that were handled.
+    pub fn handled(&self) -> u64
+        ensures { result ≡ self.now.handled }
+    {
+        self.handled
+    }
+}
+
+/// A run that came to a fault. A step makes it alone: its fields are private to this module.
+#[derive(Debug, Drop)]
+pub struct Ended {
+    fault: PlanFault,
+    seed: u64,
+    handled: u64,
+    max_events: u64,
+    timeout: Option<u64>,
+}
+
+impl Model for Ended {
+    ghost use Rattle.ledger_simulate.specs.Results.{EndedView};
+
+    ghost Value = { EndedView };
+
+    ghost view = { λ e. record { fault = e.fault; seed = e.seed; handled = e.handled; max_events = e.max_events; timeout = e.timeout } };
+}
+
+impl Ended {
+    /// Why the run isn't a success.
+    pub fn fault(&self) -> &PlanFault
+        ensures { result.now ≡ self.now.fault }
+    {
+        &self.fault
+    }
+
+    /// The seed of the run.
+    pub fn seed(&self) -> u64
+        ensures { result ≡ self.now.seed }
+    {
+        self.seed
+    }
+
+    /// The number of events that were handled before.
+    pub fn handled(&self) -> u64
+        ensures { result ≡ self.now.handled }
+    {
+        self.handled
+    }
+}
+
+/// Why a run gives no result.
+#[derive(Debug, Drop)]
+pub enum SimEnd {
+    Fault(Ended),
+    OutOfMemory,
+}
+
 impl<'a, D: EngineDefinition> Simulation<'a, D> {
     /// A run of the plan before its first event.
     pub fn new(alloc: Global, plan: &'a Plan<D>, seed: u64) -> Result<Self, OutOfMemory>
         requires { Runs plan.now.participants plan.now.crashes }
-        ensures handled { IfOk result (λ s. s.handled ≡ 0) }
-        ensures seed { IfOk result (λ s. s.seed ≡ seed) }
+        ensures opens { IfOk result (λ s. Opens (record {
+          engine = plan.now.engine;
+          peer_of = D.peer_of plan.now.engine;
+          journal = D.journal plan.now.engine;
+          reports = D.reports plan.now.engine;
+          channels = D.carried_on plan.now.engine;
+          max_size = D.carried_size plan.now.engine;
+          height = D.State.height_of;
+          shown = D.State.bytes_of;
+          participants = plan.now.participants;
+          crashes = plan.now.crashes;
+          link = plan.now.link;
+          checks = plan.now.finalization_property;
+          check_name = λ p. finalization_name p;
+          complaint = λ p. finalization_complaint p;
+          properties = plan.now.property;
+          property_name = λ p. property_name p;
+          objection = λ p. property_complaint p;
+          condition = plan.now.exit_condition;
+          condition_name = λ c. exit_name c;
+          polls = λ c. exit_polls c;
+          verdict = λ c. exit_verdict c;
+          required = plan.now.required_finalizations;
+          max_events = plan.now.max_events;
+          timeout = plan.now.timeout;
+        })
+            seed (course_of s)) }
         ensures plan { IfOk result (λ s. s.plan ≡ plan.entry) }
-        ensures updates { IfOk result (λ s. s.watch ≡ []) }
-        ensures words { IfOk result (λ s. s.world.words ≡ pcg32_of_seed (pcg32_seed 16 seed)) }
-        ensures links { IfOk result (λ s. (common_link s.world.links ≡ plan.now.link) × (changed_links s.world.links ≡ [])) }
-        ensures queue { IfOk result (λ s. (polls : Bool) × (plan.now.exit_condition ≡ None → polls ≡ false) × (s.queue ≡ queued_all empty_queue 0 (opening plan.now.participants plan.now.crashes polls))) }
-        ensures started { IfOk result (λ s. s.world.exercise.delayed_started ≡ false) }
-        ensures counts { IfOk result (λ s. tally_of s.world.exercise ≡ no_tally (length plan.now.crashes)) }
-        ensures rules { IfOk result (λ s. IfSome (D.carried_size plan.now.engine) (λ told. s.world.rules.max_size ≡ told) × IfSome (D.carried_on plan.now.engine) (λ told. s.world.rules.channels.items ≡ told)) }
-        ensures seated { IfOk result (λ s. Seated (D.peer_of plan.now.engine) s.queue.next s.world.seats.entries) }
     {
         let mut world = World::new(alloc, plan, Pcg32::seed_from_u64(seed))?;
         let mut agenda = Agenda::new(alloc, 0);
@@ -129,18 +289,87 @@ impl<'a, D: EngineDefinition> Simulation<'a, D> {
     /// were handled as the plan allows, and where the first event is due after the timeout; and then by what
     /// the event brings. A refused call gives the run up.
     pub fn step(self) -> Result<Stepped<'a, D>, SimEnd>
-        ensures early { IfSome (early_fault (first_key self.entry.queue) self.entry.handled self.entry.plan.now.max_events self.entry.plan.now.timeout) (λ f. result ≡ Err (SimEnd.Fault (record { fault = f; seed = self.entry.seed; handled = self.entry.handled; max_events = self.entry.plan.now.max_events; timeout = self.entry.plan.now.timeout }))) }
-        ensures late { (e : EndedView) → early_fault (first_key self.entry.queue) self.entry.handled self.entry.plan.now.max_events self.entry.plan.now.timeout ≡ None → result ≡ Err (SimEnd.Fault e) → (IsTrue (is_late e.fault)) × (e.handled ≡ self.entry.handled + 1) × (e.seed ≡ self.entry.seed) × (e.max_events ≡ self.entry.plan.now.max_events) × (e.timeout ≡ self.entry.plan.now.timeout) }
-        ensures comes { (e : EndedView) → early_fault (first_key self.entry.queue) self.entry.handled self.entry.plan.now.max_events self.entry.plan.now.timeout ≡ None → result ≡ Err (SimEnd.Fault e) → Comes (ReportsThen (D.peer_of self.entry.plan.now.engine) (D.journal self.entry.plan.now.engine) (D.reports self.entry.plan.now.engine) (told_first self.entry.queue) (empty_agenda self.entry.queue.next) self.entry.world) (SkipsAfter (D.peer_of self.entry.plan.now.engine) (D.journal self.entry.plan.now.engine) (D.reports self.entry.plan.now.engine) D.State.height_of self.entry.plan.now.participants self.entry.plan.now.crashes (Sound (λ p. finalization_complaint p) self.entry.plan.now.finalization_property D.State.height_of D.State.bytes_of) (told_first self.entry.queue) (empty_agenda self.entry.queue.next) self.entry.world) (MissesAt (D.peer_of self.entry.plan.now.engine) (D.journal self.entry.plan.now.engine) (D.reports self.entry.plan.now.engine) D.State.height_of D.State.bytes_of (Sound (λ p. finalization_complaint p) self.entry.plan.now.finalization_property D.State.height_of D.State.bytes_of) (λ c. exit_verdict c) self.entry.plan.now.exit_condition self.entry.plan.now.required_finalizations self.entry.plan.now.participants self.entry.plan.now.crashes self.entry.queue self.entry.watch self.entry.world) self.entry.watch e.fault }
-        ensures answered { (e : EndedView) → early_fault (first_key self.entry.queue) self.entry.handled self.entry.plan.now.max_events self.entry.plan.now.timeout ≡ None → result ≡ Err (SimEnd.Fault e) → Answered (λ p. finalization_name p) (λ p. finalization_complaint p) (λ p. property_name p) (λ p. property_complaint p) (λ c. exit_name c) (λ c. exit_verdict c) self.entry.plan.now.finalization_property self.entry.plan.now.property self.entry.plan.now.exit_condition (SeesAfter (D.peer_of self.entry.plan.now.engine) (D.journal self.entry.plan.now.engine) (D.reports self.entry.plan.now.engine) D.State.height_of D.State.bytes_of self.entry.plan.now.participants self.entry.plan.now.crashes (Sound (λ p. finalization_complaint p) self.entry.plan.now.finalization_property D.State.height_of D.State.bytes_of) (told_first self.entry.queue) (empty_agenda self.entry.queue.next) self.entry.world) (Asks (D.peer_of self.entry.plan.now.engine) (D.journal self.entry.plan.now.engine) (D.reports self.entry.plan.now.engine) D.State.height_of D.State.bytes_of self.entry.plan.now.participants self.entry.plan.now.crashes (Sound (λ p. finalization_complaint p) self.entry.plan.now.finalization_property D.State.height_of D.State.bytes_of) (told_first self.entry.queue) self.entry.watch (empty_agenda self.entry.queue.next) self.entry.world) (Ends (D.peer_of self.entry.plan.now.engine) (D.journal self.entry.plan.now.engine) (D.reports self.entry.plan.now.engine) D.State.height_of D.State.bytes_of (Sound (λ p. finalization_complaint p) self.entry.plan.now.finalization_property D.State.height_of D.State.bytes_of) (λ c. exit_verdict c) self.entry.plan.now.exit_condition self.entry.plan.now.required_finalizations self.entry.plan.now.participants self.entry.plan.now.crashes self.entry.queue self.entry.watch self.entry.world) self.entry.watch e.fault }
-        ensures ended { (e : EndedView) → result ≡ Err (SimEnd.Fault e) → (e.seed ≡ self.entry.seed) × (e.max_events ≡ self.entry.plan.now.max_events) × (e.timeout ≡ self.entry.plan.now.timeout) }
-        ensures on { (next : _) → result ≡ Ok (Stepped.On next) → Proceeds (D.peer_of self.entry.plan.now.engine) (D.journal self.entry.plan.now.engine) (D.reports self.entry.plan.now.engine) D.State.height_of self.entry.plan.now.participants self.entry.plan.now.crashes (Sound (λ p. finalization_complaint p) self.entry.plan.now.finalization_property D.State.height_of D.State.bytes_of) self.entry.queue next.queue self.entry.watch next.watch self.entry.world next.world × (next.handled ≡ self.entry.handled + 1) × (self.entry.handled < self.entry.plan.now.max_events) × (next.seed ≡ self.entry.seed) × (next.plan ≡ self.entry.plan) }
-        ensures started { (next : _) → result ≡ Ok (Stepped.On next) → next.world.exercise.delayed_started ≡ started_after self.entry.plan.now.participants self.entry.plan.now.crashes self.entry.watch self.entry.world.exercise.delayed_started (drop (length self.entry.watch) next.watch) }
-        ensures done { (r : ResultView) → result ≡ Ok (Stepped.Done r) → Extends self.entry.watch r.updates × (r.handled ≡ self.entry.handled + 1) × (r.seed ≡ self.entry.seed) × (r.max_events ≡ self.entry.plan.now.max_events) × (r.timeout ≡ self.entry.plan.now.timeout) }
-        ensures success { (r : ResultView) → result ≡ Ok (Stepped.Done r) → Succeeds (λ c. exit_verdict c) (λ p. property_complaint p) self.entry.plan.now.participants self.entry.plan.now.crashes self.entry.plan.now.exit_condition self.entry.plan.now.required_finalizations self.entry.plan.now.property r }
-        ensures delayed { (r : ResultView) → result ≡ Ok (Stepped.Done r) → (count : ℕ) × (r.reached ≡ tracker_of (take count r.updates)) × (r.delayed_started ≡ started_where self.entry.plan.now.participants self.entry.plan.now.crashes self.entry.watch self.entry.world.exercise.delayed_started count (drop (length self.entry.watch) r.updates)) }
-        ensures counts { (r : ResultView) → result ≡ Ok (Stepped.Done r) → (more : _) × (end : Ends (D.peer_of self.entry.plan.now.engine) (D.journal self.entry.plan.now.engine) (D.reports self.entry.plan.now.engine) D.State.height_of D.State.bytes_of (Sound (λ p. finalization_complaint p) self.entry.plan.now.finalization_property D.State.height_of D.State.bytes_of) (λ c. exit_verdict c) self.entry.plan.now.exit_condition self.entry.plan.now.required_finalizations self.entry.plan.now.participants self.entry.plan.now.crashes self.entry.queue self.entry.watch self.entry.world more r.states) × (r.updates ≡ self.entry.watch ++ more) × (tally_shown r ≡ tally_of end.after.exercise) × (r.delayed_started ≡ end.after.exercise.delayed_started) }
-        ensures reports { (r : ResultView) → result ≡ Ok (Stepped.Done r) → Seated (D.peer_of self.entry.plan.now.engine) self.entry.queue.next self.entry.world.seats.entries → Grows (D.reports self.entry.plan.now.engine) self.entry.watch r.updates }
+        ensures on { (next : _) → result ≡ Ok (Stepped.On next) → GoesOn (record {
+          engine = self.entry.plan.now.engine;
+          peer_of = D.peer_of self.entry.plan.now.engine;
+          journal = D.journal self.entry.plan.now.engine;
+          reports = D.reports self.entry.plan.now.engine;
+          channels = D.carried_on self.entry.plan.now.engine;
+          max_size = D.carried_size self.entry.plan.now.engine;
+          height = D.State.height_of;
+          shown = D.State.bytes_of;
+          participants = self.entry.plan.now.participants;
+          crashes = self.entry.plan.now.crashes;
+          link = self.entry.plan.now.link;
+          checks = self.entry.plan.now.finalization_property;
+          check_name = λ p. finalization_name p;
+          complaint = λ p. finalization_complaint p;
+          properties = self.entry.plan.now.property;
+          property_name = λ p. property_name p;
+          objection = λ p. property_complaint p;
+          condition = self.entry.plan.now.exit_condition;
+          condition_name = λ c. exit_name c;
+          polls = λ c. exit_polls c;
+          verdict = λ c. exit_verdict c;
+          required = self.entry.plan.now.required_finalizations;
+          max_events = self.entry.plan.now.max_events;
+          timeout = self.entry.plan.now.timeout;
+        })
+            (course_of self.entry) (course_of next) × (next.plan ≡ self.entry.plan) }
+        ensures done { (r : ResultView) → result ≡ Ok (Stepped.Done r) → Finishes (record {
+          engine = self.entry.plan.now.engine;
+          peer_of = D.peer_of self.entry.plan.now.engine;
+          journal = D.journal self.entry.plan.now.engine;
+          reports = D.reports self.entry.plan.now.engine;
+          channels = D.carried_on self.entry.plan.now.engine;
+          max_size = D.carried_size self.entry.plan.now.engine;
+          height = D.State.height_of;
+          shown = D.State.bytes_of;
+          participants = self.entry.plan.now.participants;
+          crashes = self.entry.plan.now.crashes;
+          link = self.entry.plan.now.link;
+          checks = self.entry.plan.now.finalization_property;
+          check_name = λ p. finalization_name p;
+          complaint = λ p. finalization_complaint p;
+          properties = self.entry.plan.now.property;
+          property_name = λ p. property_name p;
+          objection = λ p. property_complaint p;
+          condition = self.entry.plan.now.exit_condition;
+          condition_name = λ c. exit_name c;
+          polls = λ c. exit_polls c;
+          verdict = λ c. exit_verdict c;
+          required = self.entry.plan.now.required_finalizations;
+          max_events = self.entry.plan.now.max_events;
+          timeout = self.entry.plan.now.timeout;
+        })
+            (course_of self.entry) r }
+        ensures fails { (e : EndedView) → result ≡ Err (SimEnd.Fault e) → Fails (record {
+          engine = self.entry.plan.now.engine;
+          peer_of = D.peer_of self.entry.plan.now.engine;
+          journal = D.journal self.entry.plan.now.engine;
+          reports = D.reports self.entry.plan.now.engine;
+          channels = D.carried_on self.entry.plan.now.engine;
+          max_size = D.carried_size self.entry.plan.now.engine;
+          height = D.State.height_of;
+          shown = D.State.bytes_of;
+          participants = self.entry.plan.now.participants;
+          crashes = self.entry.plan.now.crashes;
+          link = self.entry.plan.now.link;
+          checks = self.entry.plan.now.finalization_property;
+          check_name = λ p. finalization_name p;
+          complaint = λ p. finalization_complaint p;
+          properties = self.entry.plan.now.property;
+          property_name = λ p. property_name p;
+          objection = λ p. property_complaint p;
+          condition = self.entry.plan.now.exit_condition;
+          condition_name = λ c. exit_name c;
+          polls = λ c. exit_polls c;
+          verdict = λ c. exit_verdict c;
+          required = self.entry.plan.now.required_finalizations;
+          max_events = self.entry.plan.now.max_events;
+          timeout = self.entry.plan.now.timeout;
+        })
+            (course_of self.entry) e }
     {
         let plan = self.plan;
         match early(
@@ -149,7 +378,7 @@ impl<'a, D: EngineDefinition> Simulation<'a, D> {
             plan.max_events,
             plan.timeout,
         ) {
-            Some(fault) => Err(ended(plan, self.seed, self.handled, fault)),
+            Some(fault) => Err(end_by(plan, self.seed, self.handled, fault)),
             None => self.advance(),
         }
     }
@@ -221,11 +450,11 @@ impl<'a, D: EngineDefinition> Simulation<'a, D> {
             reached.states.as_slice(),
         ) {
             Ok(()) => {}
-            Err(Stop::Fault(fault)) => return Err(ended(plan, self.seed, self.handled, fault)),
+            Err(Stop::Fault(fault)) => return Err(end_by(plan, self.seed, self.handled, fault)),
             Err(Stop::OutOfMemory) => return Err(SimEnd::OutOfMemory),
         }
         match self.world.exercise.first_missed(plan.crashes.as_slice()) {
-            Some(index) => Err(ended(
+            Some(index) => Err(end_by(
                 plan,
                 self.seed,
                 self.handled,
@@ -269,7 +498,7 @@ impl<'a, D: EngineDefinition> Simulation<'a, D> {
 }
 
 /// The end of a run by a fault.
-fn ended<D: EngineDefinition>(plan: &Plan<D>, seed: u64, handled: u64, fault: PlanFault) -> SimEnd
+fn end_by<D: EngineDefinition>(plan: &Plan<D>, seed: u64, handled: u64, fault: PlanFault) -> SimEnd
     ensures { result ≡ SimEnd.Fault (record { fault = fault; seed = seed; handled = handled; max_events = plan.now.max_events; timeout = plan.now.timeout }) }
 {
     SimEnd::Fault(Ended {
@@ -286,7 +515,7 @@ fn stopped<D: EngineDefinition>(plan: &Plan<D>, seed: u64, handled: u64, stop: S
     ensures { result ≡ end_of stop seed handled plan.now.max_events plan.now.timeout }
 {
     match stop {
-        Stop::Fault(fault) => ended(plan, seed, handled, fault),
+        Stop::Fault(fault) => end_by(plan, seed, handled, fault),
         Stop::OutOfMemory => SimEnd::OutOfMemory,
     }
 }
@@ -319,136 +548,13 @@ fn early(
     }
 }
 
-/// Makes the first events of a run: the starts of the participants that aren't delayed, the actions of the
-/// schedules, the random crash and the exit poll.
-fn open<D: EngineDefinition>(
-    plan: &Plan<D>,
-    world: &mut World<D>,
-    agenda: &mut Agenda,
-    polls: bool,
-) -> Result<(), OutOfMemory>
-    ensures made { OnOk result (agenda.new ≡ record agenda.old { events = agenda.old.events ++ opening plan.now.participants plan.now.crashes polls }) }
-    ensures disturbs { OnOk result (Disturbs (D.peer_of plan.now.engine) agenda.old agenda.new world.old world.new) }
-    ensures exercise { OnOk result (world.new.exercise ≡ world.old.exercise) }
-{
-    match start_prompt(plan, world, agenda) {
-        Ok(()) => {}
-        Err(fault) => return Err(fault),
-    }
-    match set_failures(agenda, plan.crashes.as_slice(), polls) {
-        Ok(()) => Ok(()),
-        Err(fault) => Err(fault),
-    }
-}
-
-/// Starts the participants that aren't delayed, in order.
-fn start_prompt<D: EngineDefinition>(
-    plan: &Plan<D>,
-    world: &mut World<D>,
-    agenda: &mut Agenda,
-) -> Result<(), OutOfMemory>
-    ensures made { OnOk result (agenda.new ≡ record agenda.old { events = agenda.old.events ++ starts (others (named_late plan.now.crashes) plan.now.participants) }) }
-    ensures disturbs { OnOk result (Disturbs (D.peer_of plan.now.engine) agenda.old agenda.new world.old world.new) }
-    ensures exercise { OnOk result (world.new.exercise ≡ world.old.exercise) }
-{
-    for pk in plan.participants.as_slice() {
-        match start_if_prompt(plan, world, agenda, pk) {
-            Ok(()) => {}
-            Err(fault) => return Err(fault),
-        }
-    }
-    Ok(())
-}
-
-/// Starts a participant, where it isn't delayed.
-fn start_if_prompt<D: EngineDefinition>(
-    plan: &Plan<D>,
-    world: &mut World<D>,
-    agenda: &mut Agenda,
-    pk: &Peer,
-) -> Result<(), OutOfMemory>
-    ensures made { OnOk result (agenda.new ≡ record agenda.old { events = agenda.old.events ++ starts (others (named_late plan.now.crashes) (pk.now ∷ [])) }) }
-    ensures disturbs { OnOk result (Disturbs (D.peer_of plan.now.engine) agenda.old agenda.new world.old world.new) }
-    ensures exercise { OnOk result (world.new.exercise ≡ world.old.exercise) }
-{
-    if is_among(named_late_by(plan.crashes.as_slice()), pk) {
-        return Ok(());
-    }
-    match world.launch(plan, agenda, *pk) {
-        Ok(()) => Ok(()),
-        Err(fault) => Err(fault),
-    }
-}
-
 /// Whether the plan's exit condition is polled.
 fn polls<D: EngineDefinition>(plan: &Plan<D>) -> bool
-    ensures { plan.now.exit_condition ≡ None → result ≡ false }
+    ensures { result ≡ option_map_or (λ c. exit_polls c) plan.now.exit_condition false }
 {
     match &plan.exit_condition {
         Some(condition) => condition.requires_polling(),
         None => false,
-    }
-}
-
-/// Sets the actions of the schedules, the random crash and the exit poll.
-fn set_failures(agenda: &mut Agenda, crashes: &[Crash], polls: bool) -> Result<(), OutOfMemory>
-    ensures { OnOk result (agenda.new ≡ record agenda.old { events = agenda.old.events ++ flat_map actions_of crashes.now ++ flat_map first_tick crashes.now ++ first_poll polls }) }
-{
-    set_actions(agenda, crashes)?;
-    set_ticks(agenda, crashes)?;
-    if polls {
-        agenda.after(EXIT_POLL, Event::ExitPoll)?;
-    }
-    Ok(())
-}
-
-/// Sets the actions of each schedule, in the order of the configured failures.
-fn set_actions(agenda: &mut Agenda, crashes: &[Crash]) -> Result<(), OutOfMemory>
-    ensures { OnOk result (agenda.new ≡ record agenda.old { events = agenda.old.events ++ flat_map actions_of crashes.now }) }
-{
-    for crash in crashes {
-        set_schedule(agenda, crash)?;
-    }
-    Ok(())
-}
-
-/// Sets the actions of a failure's schedule.
-fn set_schedule(agenda: &mut Agenda, crash: &Crash) -> Result<(), OutOfMemory>
-    ensures { OnOk result (agenda.new ≡ record agenda.old { events = agenda.old.events ++ actions_of crash.now }) }
-{
-    match crash {
-        Crash::Schedule(schedule) => set_each(agenda, schedule.events()),
-        _ => Ok(()),
-    }
-}
-
-/// Sets these actions, at their times.
-fn set_each(agenda: &mut Agenda, actions: &[(u64, Action)]) -> Result<(), OutOfMemory>
-    ensures { OnOk result (agenda.new ≡ record agenda.old { events = agenda.old.events ++ map (λ e. (e.0, Act e.1)) actions.now }) }
-{
-    for action in actions {
-        agenda.after(action.0, Event::Act(action.1))?;
-    }
-    Ok(())
-}
-
-/// Sets the first crash of each random failure.
-fn set_ticks(agenda: &mut Agenda, crashes: &[Crash]) -> Result<(), OutOfMemory>
-    ensures { OnOk result (agenda.new ≡ record agenda.old { events = agenda.old.events ++ flat_map first_tick crashes.now }) }
-{
-    for crash in crashes {
-        set_tick(agenda, crash)?;
-    }
-    Ok(())
-}
-
-/// Sets the first crash of a failure, where it is random.
-fn set_tick(agenda: &mut Agenda, crash: &Crash) -> Result<(), OutOfMemory>
-    ensures { OnOk result (agenda.new ≡ record agenda.old { events = agenda.old.events ++ first_tick crash.now }) }
-{
-    match crash {
-        Crash::Random { frequency, .. } => agenda.after(*frequency, Event::CrashTick),
-        _ => Ok(()),
     }
 }
 

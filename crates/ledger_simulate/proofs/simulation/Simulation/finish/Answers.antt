@@ -24,7 +24,7 @@ returns-clause-success g c = λ r e.
 pub returns-in-Err-Fault-clause-answered : goal.returns-in-Err-Fault-clause-answered
 returns-in-Err-Fault-clause-answered g c = λ e h.
     let reached = c.args.reached in
-    subst (Answered (λ x. (goal.FinalizationProperty-dyn g (x.vtable, x.value)).finalization_name x.value) (λ x. (goal.FinalizationProperty-dyn g (x.vtable, x.value)).finalization_complaint x.value) (λ x. (goal.Property-dyn g (x.vtable, x.value)).property_name x.value) (λ x. (goal.Property-dyn g (x.vtable, x.value)).property_complaint x.value) (λ x. (goal.ExitCondition-dyn g (x.vtable, x.value)).exit_name x.value) (λ x. (goal.ExitCondition-dyn g (x.vtable, x.value)).exit_verdict x.value) c.args.self.plan.now.finalization_property c.args.self.plan.now.property c.args.self.plan.now.exit_condition (λ m v. ⊥) (λ m v n. ⊥) (EndsAt reached.states.items) c.args.self.watch) (fault_shown c.ended.result _ e c.ended.ensures h)
+    subst (Answered (λ x. (goal.FinalizationProperty-dyn g (x.vtable, x.value)).finalization_name x.value) (λ x. (goal.FinalizationProperty-dyn g (x.vtable, x.value)).finalization_complaint x.value) (λ x. (goal.Property-dyn g (x.vtable, x.value)).property_name x.value) (λ x. (goal.Property-dyn g (x.vtable, x.value)).property_complaint x.value) (λ x. (goal.ExitCondition-dyn g (x.vtable, x.value)).exit_name x.value) (λ x. (goal.ExitCondition-dyn g (x.vtable, x.value)).exit_verdict x.value) c.args.self.plan.now.finalization_property c.args.self.plan.now.property c.args.self.plan.now.exit_condition (λ m v. ⊥) (λ m v n. ⊥) (EndsAt reached.states.items) c.args.self.watch) (fault_shown c.end_by.result _ e c.end_by.ensures h)
     (answered_objects (λ x. (goal.FinalizationProperty-dyn g (x.vtable, x.value)).finalization_name x.value) (λ x. (goal.FinalizationProperty-dyn g (x.vtable, x.value)).finalization_complaint x.value) (λ x. (goal.Property-dyn g (x.vtable, x.value)).property_name x.value) (λ x. (goal.Property-dyn g (x.vtable, x.value)).property_complaint x.value) (λ x. (goal.ExitCondition-dyn g (x.vtable, x.value)).exit_name x.value) (λ x. (goal.ExitCondition-dyn g (x.vtable, x.value)).exit_verdict x.value) c.args.self.plan.now.finalization_property c.args.self.plan.now.property c.args.self.plan.now.exit_condition (λ m v. ⊥) (λ m v n. ⊥) (EndsAt reached.states.items) c.args.self.watch reached.states.items c.in-Err-Fault.field-0 c.in-Err-Fault.fault (refl, refl) c.in-Err-Fault.field-0-is
     (objection_on (λ x. (goal.Property-dyn g (x.vtable, x.value)).property_name x.value) (λ x. (goal.Property-dyn g (x.vtable, x.value)).property_complaint x.value) c.as_slice.result.now c.args.self.plan.now.property c.tracker.result.now (tracker_of c.args.self.watch) c.as_slice-2.result.now reached.states.items c.in-Err-Fault.field-0
     c.as_slice.ensures c.tracker.ensures.value c.as_slice-2.ensures.value c.in-Err-Fault.ensures.objects))

@@ -3,7 +3,7 @@ use Rattle.simulate_parts.specs.Team.{others}
 use Rattle.ledger_simulate.specs.Handling.{Disturbs}
 use Rattle.ledger_simulate.specs.Opening.{starts}
 use Rattle.ledger_simulate.specs.Plans.{named_late}
-use Rattle.ledger_simulate.proofs.simulation.start_prompt.Given as goal
+use Rattle.ledger_simulate.proofs.opening.start_prompt.Given as goal
 
 abbrev pub invariant-loop-pk : goal.invariant-loop-pk
 invariant-loop-pk g l = record {

@@ -2,7 +2,7 @@ use Rattle.std.proofs.Common.{◌∙◌}
 use Rattle.ledger_simulate.specs.Plans.{named_late}
 use Rattle.ledger_simulate.proofs.Beginning.{starts_more}
 use Rattle.ledger_simulate.proofs.Stirring.{disturbs_then}
-use Rattle.ledger_simulate.proofs.simulation.start_prompt.Goals as goal
+use Rattle.ledger_simulate.proofs.opening.start_prompt.Goals as goal
 
 pub loop-pk-preserved : goal.loop-pk-preserved
 loop-pk-preserved g c = record {

@@ -3,7 +3,7 @@ use Rattle.std.specs.List.{flat_map}
 use Rattle.ledger_simulate.specs.Opening.{actions_of, first_poll, first_tick}
 use Rattle.ledger_simulate.proofs.Beginning.{adds_failures}
 use Rattle.ledger_simulate.proofs.Stirring.{disturbs_still, disturbs_then}
-use Rattle.ledger_simulate.proofs.simulation.open.Goals as goal
+use Rattle.ledger_simulate.proofs.opening.open.Goals as goal
 
 pub returns-in-Ok-set_failures-clause-disturbs : goal.returns-in-Ok-set_failures-clause-disturbs
 returns-in-Ok-set_failures-clause-disturbs g c =
