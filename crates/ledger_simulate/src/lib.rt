@@ -22,8 +22,6 @@ mod messages;
 mod opening;
 mod plan;
 mod queue;
-#[cfg(test)]
-mod replays;
 mod reports;
 mod run;
 mod simulation;
