@@ -9,7 +9,7 @@ use Rattle.std.proofs.lemmas.List.Sums.{sum_by-cons}
 use Rattle.std.proofs.lemmas.List.Sorted.{IsPermutation-sym, All-permutation, sum_by-IsPermutation}
 use Rattle.std.proofs.lemmas.List.Concat.{length-flat_map, flat_map-cons}
 use Rattle.sync_client.specs.declared.collector.Piece.{Piece}
-use Rattle.sync_client.specs.Collected.{Collected, is_complete}
+use Rattle.sync_client.specs.Collected.{Collected, ranges_of, is_complete}
 use Rattle.sync_client.specs.Tiles.{Tiles, inside, in_ranges, in_pieces, size_of_ranges, size_of_pieces, HasOps, Pinned}
 use Rattle.sync_client.specs.Parts.{Stands, Assembles, IsJoined}
 use Rattle.sync_client.proofs.Insides.{inside_in, inside_before, inside_behind, inside_split, inside_none}
@@ -111,9 +111,9 @@ whole v h done x =
     let d : size_of_pieces v.kept ≡ v.plan.target.end - v.plan.target.start = eqb-true _ _ done in
     let t = h.total in
     let le = h.to_end in
-    let lp : length v.pending ≤ size_of_ranges v.pending = length_ranges v.plan.target.end v.pending h.pending in
+    let lp : length (ranges_of v.pending) ≤ size_of_ranges (ranges_of v.pending) = length_ranges v.plan.target.end (ranges_of v.pending) h.pending in
     let lr : length v.rests ≤ size_of_ranges v.rests = length_ranges v.plan.target.end v.rests h.rests in
-    let a : in_ranges x v.pending ≡ 0 = no_places x v.pending (omega arith) in
+    let a : in_ranges x (ranges_of v.pending) ≡ 0 = no_places x (ranges_of v.pending) (omega arith) in
     let b : in_ranges x v.rests ≡ 0 = no_places x v.rests (omega arith) in
     let f : v.fresh ≡ v.plan.target.end = omega arith in
     let c : inside x v.fresh v.plan.target.end ≡ 0 = rw f (inside_none x v.plan.target.end) in

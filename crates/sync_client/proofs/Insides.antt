@@ -1,5 +1,5 @@
 -- Places inside ranges, and lists without one of their ranges.
-use Rattle.std.proofs.Common.{◌≡◌, ℕ, suc, ◌+◌, ◌<◌, ◌≤◌, true, false, List, [], ◌∷◌, ◌++◌, length, get_or, slice_get, Some, ◌==◌, All, sum_by, position, remove, refl, ap, subst, ◌∙◌, arith, inl, inr}
+use Rattle.std.proofs.Common.{◌≡◌, ℕ, suc, ◌+◌, ◌<◌, ◌≤◌, true, false, List, [], ◌∷◌, ◌++◌, length, get_or, slice_get, Option, None, Some, ◌==◌, All, sum_by, position, remove, refl, ap, subst, ◌∙◌, arith, inl, inr}
 use Rattle.std.specs.List.{position_or_len}
 use Rattle.std.specs.declared.ops.Range.{Range}
 use Rattle.std.proofs.lemmas.Bool.{lt-ltb, le-ltb, le-leb, lt-leb, cases_lt, and_from, eq-eqb, eqb-true, and_parts}
@@ -9,7 +9,8 @@ use Rattle.std.proofs.lemmas.List.Quantifiers.{position-Some}
 use Rattle.std.proofs.lemmas.Option.{slice_get_within, get_or_from_slice_get, slice_get-get_or}
 use Rattle.std.proofs.Math.Seq.{get_or-append_seam}
 use Rattle.std.proofs.lemmas.List.{length-append}
-use Rattle.sync_client.specs.Collected.{same_range, without, IsOutstanding}
+use Rattle.sync_client.specs.Asking.{without_at}
+use Rattle.sync_client.specs.Collected.{same_range, IsOutstanding}
 use Rattle.sync_client.specs.Tiles.{inside}
 
 pub inside_in : (x a b : ℕ) → a ≤ x → x < b → inside x a b ≡ 1
@@ -42,8 +43,16 @@ inside_none x a = elim (cases_lt x a) [ inl p ↦ inside_before x a a p | inr p 
 
 -- ---- lists without one of their ranges
 
+-- the ranges but this one
+abbrev pub range_without : Range ℕ → List (Range ℕ) → List (Range ℕ)
+range_without r rs = without_at (position (λ q. same_range q r) rs) rs
+
 pub All-remove : {X : Type 0} (P : X → Type 0) (xs : List X) (i : ℕ) → All P xs → All P (remove xs i)
 All-remove P xs i h = All-append P _ _ (All-take P i xs h) (All-drop P (suc i) xs h)
+
+pub All-without_at : {X : Type 0} (P : X → Type 0) (o : Option ℕ) (xs : List X) → All P xs → All P (without_at o xs)
+All-without_at P None xs h = h
+All-without_at P (Some i) xs h = All-remove P xs i h
 
 pub All-at : {X : Type 0} (P : X → Type 0) (xs : List X) (i : ℕ) (x : X) → slice_get xs i ≡ Some x → All P xs → P x
 All-at P xs i x e h =
@@ -77,13 +86,13 @@ found_at r rs h =
           absurd (cc)
     ]
 
-pub sum_without : (f : Range ℕ → ℕ) (r : Range ℕ) (rs : List (Range ℕ)) → IsOutstanding r rs → sum_by f (without r rs) + f r ≡ sum_by f rs
+pub sum_without : (f : Range ℕ → ℕ) (r : Range ℕ) (rs : List (Range ℕ)) → IsOutstanding r rs → sum_by f (range_without r rs) + f r ≡ sum_by f rs
 sum_without f r rs h =
     let p = found_at r rs h in
     let e : sum_by f (remove rs p.0) + f (get_or rs p.0 r) ≡ sum_by f rs = sum_by-remove f rs p.0 r p.2 in
     rw p.1 (rw p.3 at e)
 
-pub All-without : (P : Range ℕ → Type 0) (r : Range ℕ) (rs : List (Range ℕ)) → IsOutstanding r rs → All P rs → All P (without r rs)
+pub All-without : (P : Range ℕ → Type 0) (r : Range ℕ) (rs : List (Range ℕ)) → IsOutstanding r rs → All P rs → All P (range_without r rs)
 All-without P r rs h all =
     let p = found_at r rs h in
     rw p.1 (All-remove P rs p.0 all)

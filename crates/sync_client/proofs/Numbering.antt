@@ -10,11 +10,13 @@ use Rattle.sync_net.specs.Messages.{message_at}
 use Rattle.sync_net.specs.Numbered.{number_of}
 use Rattle.sync_net.specs.declared.message.Message.{Message}
 use Rattle.sync_net.specs.declared.message.Message.TheVariants as messages
-use Rattle.sync_client.specs.Asking.{Plan, range_next, without_at, good}
+use Rattle.ledger_log.specs.declared.target.Target.{Target}
+use Rattle.sync_client.specs.Asking.{LimitsView, Plan, range_next, without_at, good}
 use Rattle.sync_client.specs.Session.{Ask, State, Rules, Offence, Next, Nothing, Send, Exhausted, ask_next, numbered, sending, started, with_answer, answered, taken_by, taken, take_frame, ask_under, place_of}
 use Rattle.sync_client.specs.Runs.{Sends, Reaches, Session, Exhausts}
 use Rattle.sync_client.specs.Ending.{Origin, Over}
 use Rattle.sync_net.specs.Wire.{Wire}
+use Rattle.sync_client.proofs.Rising.{updated_so}
 
 -- ---- one ask
 
@@ -34,7 +36,7 @@ Counted s u = (number : ℕ) × (s.next ≡ Some number) × (u.next ≡ number_a
 counted : {Op : Type 0} (s u : State Op) (a : Ask) (r : Range ℕ) (rests : List (Range ℕ)) (fresh : ℕ) (o : Option ℕ) → s.next ≡ o → numbered s r rests fresh o ≡ Send a u → Counted s u
 counted s u a r rests fresh None first e = absurd (cc e)
 counted {Op} s u a r rests fresh (Some k) first e =
-    let ask : Ask = record { number = k; range = r } in
+    let ask : Ask = record { number = k; range = r; target = s.plan.target } in
     let t : State Op = record s { next = number_after k; pending = s.pending ++ ask ∷ []; rests = rests; fresh = fresh } in
     let p : t ≡ u = cc e in
     (k, first, sym (ap (λ (v : State Op). v.next) p), sym (ap (λ (v : State Op). length v.pending) p) ∙ length-append s.pending (ask ∷ []), sym (ap (λ (v : State Op). v.plan) p))
@@ -76,7 +78,7 @@ exhausted s e =
 -- a frame was taken: at most one ask is pending no more, and the next number stays
 record Took {Op : Type 0} (u v : State Op) : Type 0 where
   next : v.next ≡ u.next
-  plan : v.plan ≡ u.plan
+  limits : v.plan.limits ≡ u.plan.limits
   most : length u.pending ≤ length v.pending + 1
   least : length v.pending ≤ length u.pending
 
@@ -89,13 +91,13 @@ without (Some i) xs = removed xs i
 
 took_answer : {Op : Type 0} (rules : Rules Op) (u v : State Op) (a : Ask) (m : Message Op) → answered rules u a m ≡ Ok v → Took u v
 took_answer {Op} rules u v a (messages.GetOperationsResponse m) e =
-    elim (cases_Bool (good rules.proved u.plan.target.start a.range m)) [
+    elim (cases_Bool (good (rules.proved a.target) u.plan.target.start a.range m)) [
       | inl ok ↦
           let q = rw ok at e in
-          let p : with_answer a m u ≡ v = cc q in
+          let p = updated_so (with_answer a m u) v q in
           let w = without (place_of a.number u.pending) u.pending in
-          let n : length (with_answer a m u).pending ≡ length v.pending = ap (λ (s : State Op). length s.pending) p in
-          record { next = sym (ap (λ (s : State Op). s.next) p); plan = sym (ap (λ (s : State Op). s.plan) p); most = (let z = w.0 in omega arith); least = (let z = w.1 in omega arith) }
+          let n : length v.pending ≡ length (with_answer a m u).pending = ap (λ (s : State Op). length s.pending) p.is in
+          record { next = ap (λ (s : State Op). s.next) p.is; limits = p.same.limits; most = (let z = w.0 in omega arith); least = (let z = w.1 in omega arith) }
       | inr bad ↦ let q = rw bad at e in absurd (cc q)
     ]
 took_answer rules u v a (messages.GetOperationsRequest m) e = absurd (cc e)
@@ -116,7 +118,7 @@ took_by {Op} rules u v m None e =
           let n : State Op = record u { strays = u.strays + 1 } in
           let p : n ≡ v = cc q in
           let k : length n.pending ≡ length v.pending = ap (λ (s : State Op). length s.pending) p in
-          record { next = sym (ap (λ (s : State Op). s.next) p); plan = sym (ap (λ (s : State Op). s.plan) p); most = omega arith; least = omega arith }
+          record { next = sym (ap (λ (s : State Op). s.next) p); limits = sym (ap (λ (s : State Op). s.plan.limits) p); most = omega arith; least = omega arith }
       | inr ge ↦ let q = rw ge at e in absurd (cc q)
     ]
 
@@ -132,13 +134,13 @@ took rules u v body e = took_read rules u v (all_of (message_at rules.read) body
 
 -- what a run from s to t with so many frames and asks leaves
 record Run {Op : Type 0} (s t : State Op) (frames asks : ℕ) : Type 0 where
-  plan : t.plan ≡ s.plan
+  limits : t.plan.limits ≡ s.plan.limits
   few : length s.pending + asks ≤ length t.pending + frames
   bound : length s.pending ≤ s.plan.limits.outstanding → length t.pending ≤ s.plan.limits.outstanding
   next : (n : ℕ) → s.next ≡ Some n → n + asks < 2 ^ 64 → t.next ≡ Some (n + asks)
 
 stays : {Op : Type 0} (s : State Op) → Run s s 0 0
-stays s = record { plan = refl; few = omega arith; bound = λ h. h; next = λ n e lt. e ∙ ap Some (omega arith) }
+stays s = record { limits = refl; few = omega arith; bound = λ h. h; next = λ n e lt. e ∙ ap Some (omega arith) }
 
 number_on : (n : ℕ) → n < 2 ^ 64 - 1 → number_after n ≡ Some (n + 1)
 number_on n lt = ap (λ (b : Bool). if b then Some (n + 1) else None) (lt-ltb n (2 ^ 64 - 1) lt)
@@ -148,7 +150,7 @@ sent_then : {Op : Type 0} (s u t : State Op) (frames asks : ℕ) → Sent s u �
 sent_then {Op} s u t frames asks a r =
     let limit : u.plan.limits.outstanding ≡ s.plan.limits.outstanding = ap (λ (p : Plan). p.limits.outstanding) a.plan in
     record {
-      plan = r.plan ∙ a.plan;
+      limits = r.limits ∙ ap (λ (p : Plan). p.limits) a.plan;
       few = (let x = r.few in let y = a.more in omega arith);
       bound = λ (h : length s.pending ≤ s.plan.limits.outstanding).
           (let y = a.more in let z = a.room in let w : length t.pending ≤ u.plan.limits.outstanding = r.bound (omega arith) in omega arith);
@@ -165,10 +167,10 @@ sends s t (ask ∷ asks) h = sent_then s h.0 t 0 (length asks) (sent s h.0 ask h
 -- a run, a frame, and a run
 took_then : {Op : Type 0} (s u v t : State Op) (frames now later : ℕ) → Run s u 0 now → Took u v → Run v t frames later → Run s t (suc frames) (now + later)
 took_then {Op} s u v t frames now later a k r =
-    let same : v.plan ≡ s.plan = k.plan ∙ a.plan in
-    let limit : v.plan.limits.outstanding ≡ s.plan.limits.outstanding = ap (λ (p : Plan). p.limits.outstanding) same in
+    let same : v.plan.limits ≡ s.plan.limits = k.limits ∙ a.limits in
+    let limit : v.plan.limits.outstanding ≡ s.plan.limits.outstanding = ap (λ (l : LimitsView). l.outstanding) same in
     record {
-      plan = r.plan ∙ same;
+      limits = r.limits ∙ same;
       few = (let x = a.few in let y = r.few in let z = k.most in omega arith);
       bound = λ (h : length s.pending ≤ s.plan.limits.outstanding).
           (let x = a.bound h in let y = k.least in let w : length t.pending ≤ v.plan.limits.outstanding = r.bound (omega arith) in omega arith);
@@ -188,16 +190,15 @@ reaches rules s t (body ∷ bodies) asks h =
     subst (λ n. Run s t (suc (length bodies)) n) (sym (ap length h.8 ∙ length-append now later)) r
 
 -- a session whose first number is 1 has a number for each ask
-pub numbers_last : {Op : Type 0} (o : Origin Op) (wire : Option Wire) (plan : Plan) → o.start ≡ started plan (Some 1) → plan.limits.outstanding ≤ 64 → plan.target.end ≤ 2 ^ 62 → Over o wire Exhausts → ⊥
-numbers_last {Op} o wire plan begun few near over =
+pub numbers_last : {Op : Type 0} (o : Origin Op) (updates before : List (Option Target)) (wire : Option Wire) (plan : Plan) → o.start ≡ started plan (Some 1) before → plan.limits.outstanding ≤ 64 → Over o updates wire Exhausts → ⊥
+numbers_last {Op} o updates before wire plan begun few over =
     let e = over.session in
     let r = reaches o.rules o.start e.last e.bodies over.asks e.reached in
     let first : o.start.next ≡ Some 1 = ap (λ (s : State Op). s.next) begun in
     let none : length o.start.pending ≡ 0 = ap (λ (s : State Op). length s.pending) begun in
-    let same : o.start.plan ≡ plan = ap (λ (s : State Op). s.plan) begun in
-    let limit : o.start.plan.limits.outstanding ≡ plan.limits.outstanding = ap (λ (p : Plan). p.limits.outstanding) same in
-    let end : o.start.plan.target.end ≡ plan.target.end = ap (λ (p : Plan). p.target.end) same in
+    let limit : o.start.plan.limits.outstanding ≡ plan.limits.outstanding = ap (λ (s : State Op). s.plan.limits.outstanding) begun in
     let frames = over.few in
+    let near = over.near in
     let counted = r.few in
     let bound = r.bound (omega arith) in
     let next : e.last.next ≡ Some (1 + length over.asks) = r.next 1 first (omega arith) in

@@ -1,5 +1,5 @@
 -- Places in lists of asks and of their ranges.
-use Rattle.std.proofs.Common.{◌≡◌, ℕ, zero, suc, ◌+◌, ◌<◌, ◌≤◌, Bool, not, cond, List, [], ◌∷◌, ◌++◌, length, map, take, drop, get_or, slice_get, Option, Some, None, nat_lt, nat_le, ◌&&◌, sum_by, position, refl, ap, ◌∙◌, arith, inl, inr, option_map, option_and_then}
+use Rattle.std.proofs.Common.{◌≡◌, ℕ, zero, suc, ◌+◌, ◌<◌, ◌≤◌, Bool, not, cond, List, [], ◌∷◌, ◌++◌, length, map, take, drop, get_or, slice_get, Option, Some, None, nat_lt, nat_le, ◌&&◌, sum_by, position, remove, refl, sym, ap, ◌∙◌, arith, inl, inr, option_map, option_and_then}
 use Rattle.std.specs.List.{prefix_len}
 use Rattle.std.specs.declared.ops.Range.{Range}
 use Rattle.std.proofs.lemmas.List.{length-map, length-take-le}
@@ -7,9 +7,11 @@ use Rattle.std.proofs.lemmas.Bool.{cases_order, cases_Bool}
 use Rattle.std.proofs.lemmas.Option.{slice_get-map, slice_get_within, get_or_from_slice_get}
 use Rattle.std.proofs.lemmas.List.Sums.{sum_by_more_le, get_or-le-sum_by}
 use Rattle.sync_client.specs.Asking.{without_at}
-use Rattle.sync_client.specs.Collected.{Collected, without}
-use Rattle.sync_client.specs.Tiles.{Tiles, inside, in_ranges, Within}
-use Rattle.sync_client.proofs.Insides.{inside_in, found_at, All-at}
+use Rattle.sync_client.specs.declared.asked.Asked.{Asked}
+use Rattle.sync_client.specs.Collected.{Collected, same_range, ranges_of, place_in, without, target_or, target_of, IsOutstanding}
+use Rattle.ledger_log.specs.declared.target.Target.{Target}
+use Rattle.sync_client.specs.Tiles.{Tiles, inside, in_ranges, Within, EndsWithin}
+use Rattle.sync_client.proofs.Insides.{inside_in, found_at, range_without, last_outstanding, All-at}
 
 prefix_len_map : {X Y : Type 0} (q : Y → Bool) (f : X → Y) (xs : List X) → prefix_len q (map f xs) ≡ prefix_len (λ x. q (f x)) xs
 prefix_len_map q f [] = refl
@@ -60,27 +62,70 @@ inside_most : (x a b : ℕ) → inside x a b ≤ 1
 unfolding inside
 inside_most x a b = elim (cases_Bool (nat_le a x && nat_lt x b)) [ inl e ↦ rw e (omega arith) | inr e ↦ rw e (omega arith) ]
 
+-- ---- what was asked
+
+-- the place at which a range was asked is its place among the ranges
+pub place_is : (r : Range ℕ) (asked : List Asked) → place_in r asked ≡ position (λ q. same_range q r) (ranges_of asked)
+place_is r asked = sym (position_map (λ (q : Range ℕ). same_range q r) (λ (a : Asked). a.range) asked)
+
+pub ranges_without : (r : Range ℕ) (asked : List Asked) → ranges_of (without r asked) ≡ range_without r (ranges_of asked)
+ranges_without r asked = without_map (λ (a : Asked). a.range) (place_in r asked) asked ∙ ap (λ (o : Option ℕ). without_at o (ranges_of asked)) (place_is r asked)
+
+pub ranges_push : (asked more : List Asked) (a : Asked) → more ≡ asked ++ a ∷ [] → ranges_of more ≡ ranges_of asked ++ a.range ∷ []
+ranges_push asked more a e = ap ranges_of e ∙ map_app (λ (b : Asked). b.range) asked (a ∷ [])
+
+-- the range that was asked last is outstanding
+pub asked_last : (asked more : List Asked) (a : Asked) → more ≡ asked ++ a ∷ [] → IsOutstanding a.range (ranges_of more)
+asked_last asked more a e = last_outstanding (ranges_of asked) (ranges_of more) a.range (ranges_push asked more a e)
+
 -- a range stands at one place
-pub one_place : {Op : Type 0} (v : Collected Op) (r : Range ℕ) (i j : ℕ) → Tiles v → r.start < r.end → i < length v.pending → j < length v.pending → get_or v.pending i r ≡ r → get_or v.pending j r ≡ r → i ≡ j
+pub one_place : {Op : Type 0} (v : Collected Op) (r : Range ℕ) (i j : ℕ) → Tiles v → r.start < r.end → i < length (ranges_of v.pending) → j < length (ranges_of v.pending) → get_or (ranges_of v.pending) i r ≡ r → get_or (ranges_of v.pending) j r ≡ r → i ≡ j
 one_place v r i j h some li lj ei ej =
     let f : Range ℕ → ℕ = λ (q : Range ℕ). inside r.start q.start q.end in
     let one : inside r.start r.start r.end ≡ 1 = inside_in r.start r.start r.end (omega arith) some in
-    let fi : f (get_or v.pending i r) ≡ 1 = ap f ei ∙ one in
-    let fj : f (get_or v.pending j r) ≡ 1 = ap f ej ∙ one in
+    let fi : f (get_or (ranges_of v.pending) i r) ≡ 1 = ap f ei ∙ one in
+    let fj : f (get_or (ranges_of v.pending) j r) ≡ 1 = ap f ej ∙ one in
     let all = h.each r.start in
     let most : inside r.start v.plan.target.start v.plan.target.end ≤ 1 = inside_most r.start v.plan.target.start v.plan.target.end in
     elim (cases_order i j) [
       | inl e ↦ e
       | inr o ↦ elim o [
-        | inl lt ↦ let t : f (get_or v.pending i r) + f (get_or v.pending j r) ≤ in_ranges r.start v.pending = two f v.pending i j r lt lj in absurd (omega arith)
-        | inr lt ↦ let t : f (get_or v.pending j r) + f (get_or v.pending i r) ≤ in_ranges r.start v.pending = two f v.pending j i r lt li in absurd (omega arith)
+        | inl lt ↦ let t : f (get_or (ranges_of v.pending) i r) + f (get_or (ranges_of v.pending) j r) ≤ in_ranges r.start (ranges_of v.pending) = two f (ranges_of v.pending) i j r lt lj in absurd (omega arith)
+        | inr lt ↦ let t : f (get_or (ranges_of v.pending) j r) + f (get_or (ranges_of v.pending) i r) ≤ in_ranges r.start (ranges_of v.pending) = two f (ranges_of v.pending) j i r lt li in absurd (omega arith)
       ]
     ]
 
 -- the range at a place is found there
-pub without_is : {Op : Type 0} (v : Collected Op) (r : Range ℕ) (i : ℕ) → Tiles v → slice_get v.pending i ≡ Some r → without r v.pending ≡ without_at (Some i) v.pending
-without_is v r i h e =
-    let f = found_at r v.pending (i, e) in
-    let asked : Within v.plan.target.end r = All-at (Within v.plan.target.end) v.pending i r e h.pending in
-    let same : f.0 ≡ i = one_place v r f.0 i h asked.0 f.2 (slice_get_within v.pending i r e) f.3 (get_or_from_slice_get v.pending i r r e) in
-    rw (f.1, same) refl
+pub found_there : {Op : Type 0} (v : Collected Op) (r : Range ℕ) (i : ℕ) → Tiles v → slice_get (ranges_of v.pending) i ≡ Some r → place_in r v.pending ≡ Some i
+found_there v r i h e =
+    let rs : List (Range ℕ) = ranges_of v.pending in
+    let f = found_at r rs (i, e) in
+    let asked : Within v.plan.target.end r = All-at (Within v.plan.target.end) rs i r e h.pending in
+    let same : f.0 ≡ i = one_place v r f.0 i h asked.0 f.2 (slice_get_within rs i r e) f.3 (get_or_from_slice_get rs i r r e) in
+    place_is r v.pending ∙ (f.1 ∙ ap Some same)
+
+-- what is left without it
+pub without_is : {Op : Type 0} (v : Collected Op) (r : Range ℕ) (i : ℕ) → Tiles v → slice_get (ranges_of v.pending) i ≡ Some r → without r v.pending ≡ remove v.pending i
+without_is v r i h e = ap (λ (o : Option ℕ). without_at o v.pending) (found_there v r i h e)
+
+-- and the target that it was asked for
+pub target_is : {Op : Type 0} (v : Collected Op) (a : Asked) (i : ℕ) → Tiles v → slice_get v.pending i ≡ Some a → target_of v a.range ≡ a.target
+target_is v a i h e =
+    let at : slice_get (ranges_of v.pending) i ≡ Some a.range = slice_get-map (λ (b : Asked). b.range) v.pending i ∙ ap (option_map (λ (b : Asked). b.range)) e in
+    ap (λ (o : Option ℕ). target_or v.plan.target (option_and_then (λ j. slice_get v.pending j) o)) (found_there v a.range i h at) ∙ ap (target_or v.plan.target) e
+
+-- what was asked at the place of a range
+pub asked_there : (asked : List Asked) (i : ℕ) (r : Range ℕ) → slice_get (ranges_of asked) i ≡ Some r → (a : Asked) × (slice_get asked i ≡ Some a) × (a.range ≡ r)
+asked_there [] i r e = absurd (cc e)
+asked_there (a ∷ asked) zero r e = (a, refl, cc e)
+asked_there (a ∷ asked) (suc i) r e = asked_there asked i r e
+
+-- a range that was asked ends within its target
+pub target_ends : {Op : Type 0} (v : Collected Op) (r : Range ℕ) → Tiles v → IsOutstanding r (ranges_of v.pending) → r.end ≤ (target_of v r).end
+target_ends v r h out =
+    let a = asked_there v.pending out.0 r out.1 in
+    let within : a.0.range.end ≤ a.0.target.end = All-at EndsWithin v.pending out.0 a.0 a.1 h.targets in
+    let same : target_of v r ≡ a.0.target = ap (target_of v) (sym a.2) ∙ target_is v a.0 out.0 h a.1 in
+    let end : (target_of v r).end ≡ a.0.target.end = ap (λ (t : Target). t.end) same in
+    let here : a.0.range.end ≡ r.end = ap (λ (q : Range ℕ). q.end) a.2 in
+    omega arith

@@ -215,6 +215,13 @@ waiting_session rules s bytes more ended p xs ys h k =
     let o = onward rules s (bytes ++ more) h.bodies k.bodies (h.rest ++ more) k.rest xs ys h.last k.last (Leads-more 10485760 bytes h.bodies h.rest more h.led) k.led h.reached k.reached (final_of rules k.last k.rest ended p k.ends) in
     (o.asks, o.all)
 
+-- ---- asks on the way
+
+sent_asks : {Op : Type 0} (rules : Rules Op) (s : State Op) (bytes rest : List ℕ) (bodies : List (List ℕ)) (ended : Bool) (p : Outcome Op) (xs ys : List Ask) (t : State Op) → Leads 10485760 bytes bodies rest → Reaches rules s bodies xs t → Session rules s bytes ended p ys → (zs : List Ask) × (ys ≡ xs ++ zs)
+sent_asks rules s bytes rest bodies ended p xs ys t l h k =
+    let o = onward rules s bytes bodies k.bodies rest k.rest xs ys t k.last l k.led h k.reached (final_of rules k.last k.rest ended p k.ends) in
+    (o.asks, o.all)
+
 -- ---- an ask that isn't sent
 
 first_sent : {Op : Type 0} (t u v : State Op) (zs : List Ask) (ask : Ask) → Sends t zs u → Stuck u → ask_next t ≡ Send ask v → (ws : List Ask) × (zs ≡ ask ∷ ws)
@@ -235,4 +242,4 @@ unsent_ask rules s bytes rest bodies ended p xs ys ask t u l h e k =
     (f.0, o.all ∙ ap (λ (z : List Ask). xs ++ z) f.1)
 
 pub session_laws : {Op : Type 0} (rules : Rules Op) (s : State Op) → SessionLaws rules s
-session_laws rules s = record { one = one_session rules s; settled = settled_session rules s; waiting = waiting_session rules s; unsent = unsent_ask rules s }
+session_laws rules s = record { one = one_session rules s; settled = settled_session rules s; waiting = waiting_session rules s; sent = sent_asks rules s; unsent = unsent_ask rules s }

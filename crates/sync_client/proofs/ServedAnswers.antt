@@ -1,11 +1,11 @@
 -- What a link that serves a log owes to an ask is a good answer to it.
-use Rattle.std.proofs.Common.{◌≡◌, ℕ, zero, suc, ◌+◌, ◌-◌, ◌*◌, ◌/◌, ◌%◌, ◌^◌, ◌<◌, ◌≤◌, min, Bool, true, false, ◌&&◌, ◌||◌, ◌==◌, nat_lt, nat_le, cond, if◌then◌else◌, List, [], ◌∷◌, ◌++◌, length, take, drop, reverse, map, All, Option, Some, None, Result, Ok, Err, refl, sym, ap, subst, ◌∙◌, inl, inr, arith, lit≤}
+use Rattle.std.proofs.Common.{◌≡◌, ℕ, zero, suc, ◌+◌, ◌-◌, ◌*◌, ◌/◌, ◌%◌, ◌^◌, ◌<◌, ◌≤◌, Bool, true, false, ◌==◌, nat_lt, nat_le, cond, if◌then◌else◌, List, [], ◌∷◌, ◌++◌, length, take, drop, reverse, map, All, Some, None, Ok, refl, sym, ap, subst, ◌∙◌, inl, inr, arith, lit≤}
 use Rattle.std.specs.Int.RustNames.{count_ones}
 use Rattle.std.specs.List.{flat_map}
 use Rattle.std.specs.declared.ops.Range.{Range}
 use Rattle.std.proofs.lemmas.Bool.{and_from, eq-eqb, cases_Bool, eqb-true}
 use Rattle.std.proofs.lemmas.Bool.Decides.{nat_tests}
-use Rattle.std.proofs.lemmas.List.{append-nil, length-append, length-take-le, length-drop, length-map, length-reverse, reverse-append}
+use Rattle.std.proofs.lemmas.List.{append-nil, length-append, length-take-le, length-drop, length-reverse, reverse-append}
 use Rattle.std.proofs.lemmas.List.Elements.{All-append, All-take, All-drop, All-cons, All-nil, All-head, All-tail}
 use Rattle.sha2.specs.Sha256.{sha256}
 use Rattle.ledger_codec.specs.Frames.{Whole, front}
@@ -15,22 +15,21 @@ use Rattle.ledger_codec.specs.Spelling.{SpellLaws}
 use Rattle.ledger_codec.proofs.Stable.{framed}
 use Rattle.ledger_merkle.specs.Digests.{sha256_length}
 use Rattle.ledger_merkle.specs.Tree.{leaf, node, join, push, grow}
-use Rattle.ledger_merkle.specs.Range.{needed, RangeOk}
-use Rattle.ledger_merkle.specs.Leaves.{ListView, leaves_from, list_size, root_at}
+use Rattle.ledger_merkle.specs.Range.{RangeOk}
+use Rattle.ledger_merkle.specs.Leaves.{ListView, list_size}
 use Rattle.ledger_merkle.specs.Levels.{tree, outside_below, proof_digests}
-use Rattle.ledger_merkle.proofs.Peaked.{begins, begins_all, proof_holds}
+use Rattle.ledger_merkle.proofs.Peaked.{begins_all, proof_holds}
 use Rattle.ledger_merkle.proofs.Pruned.{pruned_count}
-use Rattle.ledger_log.specs.View.{LogView, log_size, log_list, log_range, log_peaks_at, log_root_at}
+use Rattle.ledger_log.specs.View.{LogView, log_size, log_list, log_range, log_peaks_at}
 use Rattle.ledger_log.specs.declared.target.Target.{Target}
 use Rattle.ledger_log.proofs.Logs.{length-log_list, leaves_of_range, root_of_first, peaks_of_log}
 use Rattle.sync_net.specs.Asks.{request_of}
-use Rattle.sync_net.specs.Core.{LogData, Refusal, range_refused, served_count, pinned_for, operations_answer, core, request_framed, request_read, request_in, nothing_at, asked, reply_frame, Request}
+use Rattle.sync_net.specs.Core.{LogData, range_refused, served_count, pinned_for, core, request_framed, request_read, nothing_at, asked, reply_frame}
 use Rattle.ledger_codec.specs.Numbers.{varint, varint_within}
 use Rattle.ledger_merkle.specs.Spellings.{proof_written}
 use Rattle.sync_net.specs.Fields.{pinned_written, AreSoundPinned, PinnedFit}
 use Rattle.sync_net.specs.Laws.{message_laws}
-use Rattle.sync_net.specs.Messages.{message_at, message_written, IsNumber, IsSoundMessage, MessageFits, IsSoundOperationsResponse, OperationsResponseFits, number_written}
-use Rattle.sync_net.specs.declared.ask.Ask.{Ask as Asked}
+use Rattle.sync_net.specs.Messages.{message_at, message_written, IsNumber, IsSoundMessage, MessageFits, number_written}
 use Rattle.sync_net.specs.declared.message.Message.{Message}
 use Rattle.sync_net.specs.declared.message.Message.TheVariants as messages
 use Rattle.sync_net.specs.declared.response.GetOperationsResponse.{GetOperationsResponse}
@@ -38,7 +37,7 @@ use Rattle.sync_net.proofs.Limits.{needed_few, ones_most}
 use Rattle.sync_net.proofs.PlainData.{reply_same}
 use Rattle.sync_net.proofs.Requests.{request_same}
 use Rattle.sync_net.proofs.Short.{request_short}
-use Rattle.sync_client.specs.Asking.{good, range_ok, pinned_good, nodes_good}
+use Rattle.sync_client.specs.Asking.{good, range_ok, nodes_good}
 use Rattle.sync_client.specs.Serving.{Serves}
 use Rattle.sync_client.specs.Session.{at_least_one, request_for}
 use Rattle.sync_client.proofs.Proving.{range_ok_yes}

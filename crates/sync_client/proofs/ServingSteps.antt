@@ -1,33 +1,23 @@
 -- Over a link that serves, an ask is owed its reply, and the reply is taken as a good answer.
-use Rattle.std.proofs.Common.{◌≡◌, ℕ, zero, suc, ◌+◌, ◌-◌, ◌^◌, ◌<◌, ◌≤◌, ◌⊎◌, min, Bool, true, false, not, cond, if◌then◌else◌, nat_lt, eqb, List, [], ◌∷◌, ◌++◌, length, take, drop, All, Option, Some, None, Result, Ok, Err, inl, inr, refl, sym, ap, subst, ◌∙◌, arith, lit≤}
-use Rattle.std.specs.Prelude.{◌==◌, map, slice_get, remove, position, option_and_then, option_map}
+use Rattle.std.proofs.Common.{◌≡◌, ℕ, zero, suc, ◌+◌, ◌-◌, ◌^◌, ◌<◌, ◌≤◌, Bool, true, false, if◌then◌else◌, nat_lt, eqb, List, [], ◌∷◌, ◌++◌, length, take, drop, All, Option, Some, None, Ok, refl, sym, ap, subst, ◌∙◌, arith}
+use Rattle.std.specs.Prelude.{◌==◌, map, slice_get, remove, option_map}
 use Rattle.std.specs.List.{position_or_len}
 use Rattle.std.specs.declared.ops.Range.{Range}
-use Rattle.std.proofs.lemmas.Bool.{cases_Bool, eq-eqb, ltb-true, lt-ltb}
+use Rattle.std.proofs.lemmas.Bool.{eq-eqb, ltb-true, lt-ltb}
 use Rattle.std.proofs.lemmas.Bool.Decides.{nat_tests}
-use Rattle.std.proofs.lemmas.List.{map-append, take-map, drop-map, append-nil, take-append-drop}
-use Rattle.std.proofs.lemmas.List.Elements.{All-head, All-tail, All-cons, All-nil, All-append, All-take, All-drop, All-push, All-weaker}
-use Rattle.sha2.specs.Sha256.{sha256}
+use Rattle.std.proofs.lemmas.List.{map-append, take-map, drop-map}
+use Rattle.std.proofs.lemmas.List.Elements.{All-head, All-tail, All-nil, All-append, All-take, All-drop, All-push, All-weaker}
 use Rattle.ledger_codec.specs.Parsing.{Parsed}
-use Rattle.ledger_codec.specs.Sequences.{all_of, string_written}
-use Rattle.ledger_codec.specs.Frames.{Front, Whole, Short, Bad, front}
-use Rattle.ledger_log.specs.View.{LogView, log_size, log_range, log_peaks_at}
+use Rattle.ledger_log.specs.View.{LogView}
 use Rattle.ledger_log.specs.declared.target.Target.{Target}
-use Rattle.sync_net.specs.declared.link.LinkError.{LinkError}
-use Rattle.sync_net.specs.declared.message.Message.{Message}
-use Rattle.sync_net.specs.declared.message.Message.TheVariants as messages
-use Rattle.sync_net.specs.declared.response.GetOperationsResponse.{GetOperationsResponse}
-use Rattle.sync_net.specs.Asks.{request_of}
-use Rattle.sync_net.specs.Asking.{number_after, ask_frame}
-use Rattle.sync_net.specs.Messages.{message_at, message_written}
-use Rattle.sync_net.specs.Core.{LogData, Request, asked, reply_frame, reply_to, pinned_for}
+use Rattle.sync_net.specs.Asking.{number_after}
+use Rattle.sync_net.specs.Core.{LogData, Request, asked, reply_frame, reply_to}
 use Rattle.sync_net.specs.Service.{Service, service_sent, owes}
-use Rattle.sync_client.specs.declared.collector.Piece.{Piece}
-use Rattle.sync_client.specs.Asking.{Plan, batch_end, range_next, without_at, rest_of, nodes_of, good, range_ok}
-use Rattle.sync_client.specs.Session.{Ask, State, Rules, rules_for, Offence, Next, Nothing, Send, Exhausted, numbered, sending, ask_next, request_for, frame_of, place_of, ask_under, with_answer, answered, taken_by, taken, take_frame}
-use Rattle.sync_client.specs.Serving.{Serves}
-use Rattle.sync_client.specs.Owing.{AreSent, IsWithin, Rises, AreDrawn, IsOwn, HasNodes, Follows, owed_to, awaited, IsOwed}
-use Rattle.sync_client.proofs.ServedAnswers.{ask_is_read, answer_of, answer_count, frame_is, answer_is_good, answer_is_read, answer_is_short, served_some, served_length}
+use Rattle.sync_client.specs.Asking.{batch_end, range_next}
+use Rattle.sync_client.specs.Session.{Ask, State, Nothing, Send, numbered, sending, ask_next, request_for, frame_of, place_of}
+use Rattle.sync_client.specs.Serving.{Serves, HasTarget}
+use Rattle.sync_client.specs.Owing.{AreSent, IsWithin, Rises, AreDrawn, IsOwnAsk, Follows, owed_to, awaited, IsOwed}
+use Rattle.sync_client.proofs.ServedAnswers.{ask_is_read}
 
 -- ---- lists
 
@@ -84,9 +74,32 @@ place_is others i a h e =
 
 -- ---- sends
 
+-- a log that serves one target serves each that it has
+abbrev pub serves_for : {Op : Type 0} (written : Op → List ℕ) (sound : Op → Type 0) (held : LogData) (first target : Target) (h : Serves written sound held first) → HasTarget written h.log target → Serves written sound held target
+serves_for written sound held first target h k = record {
+  log = h.log;
+  is = h.is;
+  ops = h.ops;
+  nodes = h.nodes;
+  count = h.count;
+  front = k.front;
+  size = k.size;
+  most = h.most;
+  root = k.root;
+}
+
 -- the state after an ask
-abbrev sent_state : {Op : Type 0} → State Op → ℕ → Range ℕ → List (Range ℕ) → ℕ → State Op
-sent_state s n r rests fresh = record s { next = number_after n; pending = s.pending ++ record { number = n; range = r } ∷ []; rests = rests; fresh = fresh }
+abbrev sent_state : {Op : Type 0} → State Op → Ask → List (Range ℕ) → ℕ → State Op
+sent_state s a rests fresh = record s { next = number_after a.number; pending = s.pending ++ a ∷ []; rests = rests; fresh = fresh }
+
+-- an ask for the current target is one for a target that the log has
+own_ask : {Op : Type 0} (written : Op → List ℕ) (log : LogView Op) (target : Target) (a : Ask) → a.target ≡ target → HasTarget written log target → IsWithin target a.range → IsOwnAsk written log target a
+own_ask written log target a same has within = record {
+  has = subst (λ (t : Target). HasTarget written log t) (sym same) has;
+  start = ap (λ (t : Target). t.start) same;
+  end = (let e : a.target.end ≡ target.end = ap (λ (t : Target). t.end) same in omega arith);
+  within = subst (λ (t : Target). IsWithin t a.range) (sym same) within;
+}
 
 after_less : (n m : ℕ) (b : Bool) → nat_lt n (2 ^ 64 - 1) ≡ b → (if b then Some (n + 1) else None) ≡ Some m → (m ≡ n + 1) × (m < 2 ^ 64)
 after_less n m true t e = let k : n < 2 ^ 64 - 1 = ltb-true n (2 ^ 64 - 1) t in let same : n + 1 ≡ m = cc e in (sym same, omega arith)
@@ -103,21 +116,20 @@ drawn_after next asks n a same first d =
           All-push (λ (b : Ask). b.number < m) asks a (All-weaker (λ (b : Ask). b.number < n) (λ (b : Ask). b.number < m) (λ b lt. let q = k.0 in omega arith) asks (d.before n first)) (let q = k.0 in omega arith);
     }
 
-follows_send : {Op : Type 0} (written : Op → List ℕ) (log : LogView Op) (s : State Op) (n : ℕ) (r : Range ℕ) (rests : List (Range ℕ)) (fresh : ℕ) → Follows written log s → s.next ≡ Some n → IsWithin s.plan.target r → All (IsWithin s.plan.target) rests → s.plan.target.start ≤ fresh
-    → Follows written log (sent_state s n r rests fresh)
-follows_send written log s n r rests fresh f first within all least =
-    let a : Ask = record { number = n; range = r } in
-    record {
-      batch = f.batch;
-      many = f.many;
-      fresh = least;
-      pending = All-push (λ (b : Ask). IsWithin s.plan.target b.range) s.pending a f.pending within;
-      rests = all;
-      rises = Rises-push 0 s.pending a f.rises (f.drawn.before n first) (omega arith);
-      drawn = drawn_after s.next s.pending n a refl first f.drawn;
-      kept = f.kept;
-      nodes = f.nodes;
-    }
+follows_send : {Op : Type 0} (written : Op → List ℕ) (log : LogView Op) (s : State Op) (a : Ask) (rests : List (Range ℕ)) (fresh : ℕ) → Follows written log s → s.next ≡ Some a.number → IsOwnAsk written log s.plan.target a → All (IsWithin s.plan.target) rests → s.plan.target.start ≤ fresh
+    → Follows written log (sent_state s a rests fresh)
+follows_send written log s a rests fresh f first own all least = record {
+  batch = f.batch;
+  many = f.many;
+  has = f.has;
+  fresh = least;
+  pending = All-push (IsOwnAsk written log s.plan.target) s.pending a f.pending own;
+  rests = all;
+  rises = Rises-push 0 s.pending a f.rises (f.drawn.before a.number first) (omega arith);
+  drawn = drawn_after s.next s.pending a.number a refl first f.drawn;
+  kept = f.kept;
+  nodes = f.nodes;
+}
 
 -- the range that is asked next is one of the target's
 next_within : {Op : Type 0} (written : Op → List ℕ) (log : LogView Op) (s : State Op) (rests : List (Range ℕ)) (x : Range ℕ × List (Range ℕ) × ℕ) → Follows written log s → All (IsWithin s.plan.target) rests → range_next s.plan rests s.fresh ≡ Some x
@@ -144,17 +156,18 @@ record Sent {Op : Type 0} (s u : State Op) (a : Ask) : Type 0 where
   rests : List (Range ℕ)
   fresh : ℕ
   first : s.next ≡ Some a.number
-  is : u ≡ sent_state s a.number a.range rests fresh
+  is : u ≡ sent_state s a rests fresh
+  aimed : a.target ≡ s.plan.target
   from : range_next s.plan s.rests s.fresh ≡ Some (a.range, rests, fresh)
 
 sent_numbered : {Op : Type 0} (s u : State Op) (a : Ask) (x : Range ℕ × List (Range ℕ) × ℕ) (o : Option ℕ) → range_next s.plan s.rests s.fresh ≡ Some x → s.next ≡ o → numbered s x.0 x.1 x.2 o ≡ Send a u → Sent s u a
 sent_numbered s u a x None from first e = absurd (cc e)
 sent_numbered {Op} s u a x (Some n) from first e =
-    let ask : Ask = record { number = n; range = x.0 } in
-    let t : State Op = sent_state s n x.0 x.1 x.2 in
+    let ask : Ask = record { number = n; range = x.0; target = s.plan.target } in
+    let t : State Op = sent_state s ask x.1 x.2 in
     let p : ask ≡ a = cc e in
     let q : t ≡ u = cc e in
-    subst (λ (b : Ask). Sent s u b) p (record { rests = x.1; fresh = x.2; first = first; is = sym q; from = from })
+    subst (λ (b : Ask). Sent s u b) p (record { rests = x.1; fresh = x.2; first = first; is = sym q; aimed = refl; from = from })
 
 sent_sending : {Op : Type 0} (s u : State Op) (a : Ask) (o : Option (Range ℕ × List (Range ℕ) × ℕ)) → range_next s.plan s.rests s.fresh ≡ o → sending s o ≡ Send a u → Sent s u a
 sent_sending s u a None from e = absurd (cc e)
@@ -168,22 +181,26 @@ sent_is : {Op : Type 0} (s u : State Op) (a : Ask) → ask_next s ≡ Send a u �
 unfolding ask_next
 sent_is s u a e = sent_if s u a (nat_lt (length s.pending) s.plan.limits.outstanding) e
 
-module _ {Op : Type 0} (read : List ℕ → Parsed Op) (written spelling : Op → List ℕ) (sound : Op → Type 0) (sent : AreSent read written spelling sound) (held : LogData) (target : Target) (h : Serves written sound held target) where
+-- an ask that is sent changes neither what is fetched nor the answers that are to come
+pub asks_keep : {Op : Type 0} (s u : State Op) (a : Ask) → ask_next s ≡ Send a u → (u.plan ≡ s.plan) × (u.updates ≡ s.updates)
+asks_keep {Op} s u a e =
+    let q = sent_is s u a e in
+    (ap (λ (v : State Op). v.plan) q.is, ap (λ (v : State Op). v.updates) q.is)
+
+module _ {Op : Type 0} (read : List ℕ → Parsed Op) (written spelling : Op → List ℕ) (sound : Op → Type 0) (sent : AreSent read written spelling sound) (held : LogData) (first : Target) (h : Serves written sound held first) where
   -- an ask that is sent is owed its reply
-  pub asks_on : (s u : State Op) (a : Ask) (now : Option Service) (x : Unit {0}) → s.plan.target ≡ target → Follows written h.log s → IsOwed held s now → ask_next s ≡ Send a u
-      → Follows written h.log u × IsOwed held u (service_sent (Ok x) (frame_of written target a) now)
-  asks_on s u a now x same f owed e =
+  pub asks_on : (s u : State Op) (a : Ask) (now : Option Service) (x : Unit {0}) → Follows written h.log s → IsOwed held s now → ask_next s ≡ Send a u
+      → Follows written h.log u × IsOwed held u (service_sent (Ok x) (frame_of written a) now)
+  asks_on s u a now x f owed e =
       let q = sent_is s u a e in
       let w = next_within written h.log s s.rests (a.range, q.rests, q.fresh) f f.rests q.from in
-      let g : Follows written h.log (sent_state s a.number a.range q.rests q.fresh) = follows_send written h.log s a.number a.range q.rests q.fresh f q.first w.0 w.1 w.2 in
-      let in_target : IsWithin target a.range = subst (λ (t : Target). IsWithin t a.range) same w.0 in
-      let request : asked (frame_of written target a) ≡ Some (record { number = a.number; ask = request_for target a.range }) =
-      ask_is_read read written sound sent.laws a.number target a.range (f.drawn.next_small a.number q.first) (let m = h.most in let z = h.size in omega arith) in_target.some in_target.most in
-      let reply : reply_to held (frame_of written target a) ≡ Some (owed_to held target a) = ap (λ (o : Option Request). option_map (reply_frame held) o) request in
-      let told : now ≡ Some (awaited held target s.pending) = owed ∙ ap (λ (t : Target). Some (awaited held t s.pending)) same in
-      let more : service_sent (Ok x) (frame_of written target a) now ≡ Some (awaited held target (s.pending ++ a ∷ [])) =
-      ap (λ (o : Option Service). service_sent (Ok x) (frame_of written target a) o) told
-      ∙ (ap (λ (o : Option (List ℕ)). owes (awaited held target s.pending) o) reply
-      ∙ ap (λ (l : List (List ℕ)). Some (record { log = held; delivering = []; waiting = l })) (sym (map-append (owed_to held target) s.pending (a ∷ [])))) in
-      let all : IsOwed held (sent_state s a.number a.range q.rests q.fresh) (service_sent (Ok x) (frame_of written target a) now) = more ∙ ap (λ (t : Target). Some (awaited held t (s.pending ++ a ∷ []))) (sym same) in
-      subst (λ (v : State Op). Follows written h.log v × IsOwed held v (service_sent (Ok x) (frame_of written target a) now)) (sym q.is) (g, all)
+      let own : IsOwnAsk written h.log s.plan.target a = own_ask written h.log s.plan.target a q.aimed f.has w.0 in
+      let g : Follows written h.log (sent_state s a q.rests q.fresh) = follows_send written h.log s a q.rests q.fresh f q.first own w.1 w.2 in
+      let request : asked (frame_of written a) ≡ Some (record { number = a.number; ask = request_for a.target a.range }) =
+      ask_is_read read written sound sent.laws a.number a.target a.range (f.drawn.next_small a.number q.first) (let m = h.most in let z = own.has.size in omega arith) own.within.some own.within.most in
+      let reply : reply_to held (frame_of written a) ≡ Some (owed_to held a) = ap (λ (o : Option Request). option_map (reply_frame held) o) request in
+      let more : service_sent (Ok x) (frame_of written a) now ≡ Some (awaited held (s.pending ++ a ∷ [])) =
+      ap (λ (o : Option Service). service_sent (Ok x) (frame_of written a) o) owed
+      ∙ (ap (λ (o : Option (List ℕ)). owes (awaited held s.pending) o) reply
+      ∙ ap (λ (l : List (List ℕ)). Some (record { log = held; delivering = []; waiting = l })) (sym (map-append (owed_to held) s.pending (a ∷ [])))) in
+      subst (λ (v : State Op). Follows written h.log v × IsOwed held v (service_sent (Ok x) (frame_of written a) now)) (sym q.is) (g, more)

@@ -11,10 +11,16 @@ pub record LimitsView : Type 0 where
   pub batch : ℕ
   pub outstanding : ℕ
 
--- what is fetched, and how
+-- What is fetched, and how. The target is the first one, until a later one is taken: then it has the first start, and the later one's root and end. The start of the target that was taken last stands beside it, and how many later ones were taken.
 pub record Plan : Type 0 where
   pub target : Target
   pub limits : LimitsView
+  pub low : ℕ
+  pub taken : ℕ
+
+-- no later target was taken
+abbrev pub first_plan : Target → LimitsView → Plan
+first_plan target limits = record { target = target; limits = limits; low = target.start; taken = 0 }
 
 -- ---- asks
 
@@ -64,3 +70,7 @@ good proved start r m = nat_lt 0 (length m.operations) && (nat_le (length m.oper
 unfoldable pub range_ok : {Op : Type 0} → (List ℕ → List ℕ) → (Op → List ℕ) → List ℕ → ℕ → Judge Op
 range_ok hash spelling root size proof start ops =
     (proof.leaves == size) && ((proof.inactive_peaks == 0) && ((length proof.digests == needed size start (length ops)) && bytes_eq (range_root hash size start (map spelling ops) proof.digests) root))
+
+-- how proofs are judged in the tree of a target
+abbrev pub judged_by : {Op : Type 0} → (List ℕ → List ℕ) → (Op → List ℕ) → Target → Judge Op
+judged_by hash spelling target = range_ok hash spelling target.root target.end

@@ -3,10 +3,9 @@ use Rattle.std.specs.Prelude.{◌≡◌, ℕ, Result, Err}
 use Rattle.sync_client.specs.declared.fault.SyncFault.{SyncFault}
 use Rattle.sync_client.specs.declared.fault.SyncFault.TheVariants as faults
 
--- each answer but Network and want of memory leaves the count
+-- each answer but Network leaves the count
 abbrev pub CountKept : {X : Type 0} → Result X SyncFault → ℕ → ℕ → Type 0
 CountKept (Err faults.Network) before now = Unit {0}
-CountKept (Err faults.OutOfMemory) before now = Unit {0}
 CountKept result before now = now ≡ before
 
 -- the count stays, and Network isn't answered

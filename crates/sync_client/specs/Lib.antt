@@ -1,4 +1,5 @@
 pub mod Asking
+pub mod Updates
 pub mod Collected
 pub mod Tiles
 pub mod Parts

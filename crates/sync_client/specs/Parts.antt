@@ -35,6 +35,11 @@ abbrev pub part_of : {Op E : Type 0} → Result (HashedPart Op) E → Result (Fe
 part_of (Ok h) = Ok h.part
 part_of (Err e) = Err e
 
+-- the same beside the target that was synced
+abbrev pub synced_part : {Op E : Type 0} → Result (Target × HashedPart Op) E → Result (Target × Fetched Op) E
+synced_part (Ok x) = Ok (x.0, x.1.part)
+synced_part (Err e) = Err e
+
 -- a part of the target: its range, with the pinned nodes before it, and its root
 pub record IsPartOf {Op : Type 0} (spelling : Op → List ℕ) (target : Target) (part : Fetched Op) : Type 0 where
   pub start : part.start ≡ target.start

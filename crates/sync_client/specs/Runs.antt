@@ -40,9 +40,10 @@ pub record Session {Op : Type 0} (rules : Rules Op) (s : State Op) (bytes : List
   pub reached : Reaches rules s bodies asks last
   pub ends : Ends rules last rest ended outcome
 
--- What is true of every session: over the same bytes it ends in one way and sends the same asks. Once it has ended without the end of the bytes, longer bytes change nothing; until then they only add asks. An ask that it comes to and those before it are the first of all its asks.
+-- What is true of every session: over the same bytes it ends in one way and sends the same asks. Once it has ended without the end of the bytes, longer bytes change nothing; until then they only add asks. The asks that were sent at any state that it comes to are the first of all its asks, and an ask that it comes to there is the next one.
 pub record SessionLaws {Op : Type 0} (rules : Rules Op) (s : State Op) : Type 0 where
   pub one : (bytes : List ℕ) (ended : Bool) (o p : Outcome Op) (xs ys : List Ask) → Session rules s bytes ended o xs → Session rules s bytes ended p ys → (o ≡ p) × (xs ≡ ys)
   pub settled : (bytes more : List ℕ) (ended : Bool) (o : Outcome Op) (xs : List Ask) → Session rules s bytes false o xs → (o ≡ Waits → ⊥) → Session rules s (bytes ++ more) ended o xs
   pub waiting : (bytes more : List ℕ) (ended : Bool) (p : Outcome Op) (xs ys : List Ask) → Session rules s bytes false Waits xs → Session rules s (bytes ++ more) ended p ys → (zs : List Ask) × (ys ≡ xs ++ zs)
+  pub sent : (bytes rest : List ℕ) (bodies : List (List ℕ)) (ended : Bool) (p : Outcome Op) (xs ys : List Ask) (t : State Op) → Leads 10485760 bytes bodies rest → Reaches rules s bodies xs t → Session rules s bytes ended p ys → (zs : List Ask) × (ys ≡ xs ++ zs)
   pub unsent : (bytes rest : List ℕ) (bodies : List (List ℕ)) (ended : Bool) (p : Outcome Op) (xs ys : List Ask) (ask : Ask) (t u : State Op) → Leads 10485760 bytes bodies rest → Reaches rules s bodies xs t → ask_next t ≡ Send ask u → Session rules s bytes ended p ys → (zs : List Ask) × (ys ≡ xs ++ ask ∷ zs)

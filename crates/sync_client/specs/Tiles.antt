@@ -1,8 +1,9 @@
 -- What is kept, asked and not yet asked covers the range: each place once.
-use Rattle.std.specs.Prelude.{◌≡◌, ℕ, ◌+◌, ◌-◌, ◌<◌, ◌≤◌, ◌&&◌, List, length, All, nat_lt, nat_le, if◌then◌else◌, sum_by, count_ones}
+use Rattle.std.specs.Prelude.{◌≡◌, ℕ, ◌+◌, ◌-◌, ◌^◌, ◌<◌, ◌≤◌, ◌&&◌, List, length, All, nat_lt, nat_le, if◌then◌else◌, sum_by, count_ones}
 use Rattle.std.specs.declared.ops.Range.{Range}
 use Rattle.sync_client.specs.declared.collector.Piece.{Piece}
-use Rattle.sync_client.specs.Collected.{Collected}
+use Rattle.sync_client.specs.declared.asked.Asked.{Asked}
+use Rattle.sync_client.specs.Collected.{Collected, ranges_of}
 
 -- 1 where the place stands from a to before b
 unfoldable pub inside : ℕ → ℕ → ℕ → ℕ
@@ -28,6 +29,10 @@ size_of_pieces = sum_by (λ p. length p.ops)
 abbrev pub Within : ℕ → Range ℕ → Type 0
 Within end r = (r.start < r.end) × (r.end ≤ end)
 
+-- what was asked ends within its own target
+abbrev pub EndsWithin : Asked → Type 0
+EndsWithin a = a.range.end ≤ a.target.end
+
 -- a piece that isn't empty
 abbrev pub HasOps : {Op : Type 0} → Piece Op → Type 0
 HasOps p = 0 < length p.ops
@@ -40,9 +45,11 @@ Pinned start nodes p = p.at ≡ start → length nodes ≡ count_ones start
 pub record Tiles {Op : Type 0} (v : Collected Op) : Type 0 where
   pub from_start : v.plan.target.start ≤ v.fresh
   pub to_end : v.fresh ≤ v.plan.target.end
-  pub each : (x : ℕ) → in_pieces x v.kept + (in_ranges x v.pending + (in_ranges x v.rests + inside x v.fresh v.plan.target.end)) ≡ inside x v.plan.target.start v.plan.target.end
-  pub total : size_of_pieces v.kept + (size_of_ranges v.pending + (size_of_ranges v.rests + (v.plan.target.end - v.fresh))) ≡ v.plan.target.end - v.plan.target.start
-  pub pending : All (Within v.plan.target.end) v.pending
+  pub near : v.plan.target.end ≤ 2 ^ 62
+  pub each : (x : ℕ) → in_pieces x v.kept + (in_ranges x (ranges_of v.pending) + (in_ranges x v.rests + inside x v.fresh v.plan.target.end)) ≡ inside x v.plan.target.start v.plan.target.end
+  pub total : size_of_pieces v.kept + (size_of_ranges (ranges_of v.pending) + (size_of_ranges v.rests + (v.plan.target.end - v.fresh))) ≡ v.plan.target.end - v.plan.target.start
+  pub pending : All (Within v.plan.target.end) (ranges_of v.pending)
+  pub targets : All EndsWithin v.pending
   pub rests : All (Within v.plan.target.end) v.rests
   pub kept : All HasOps v.kept
   pub pinned : All (Pinned v.plan.target.start v.pinned) v.kept

@@ -2,16 +2,19 @@
 ghost use Rattle.std.specs.Prelude.{◌≡◌};
 
 use ledger_codec::{Digest, OutOfMemory, Text};
+use ledger_merkle::Location;
 use std::alloc::AllocError;
 use sync_net::ErrorCode;
 
-/// Why an answer isn't kept, or no part is made.
+/// Why an answer isn't kept, a later target isn't taken, or no part is made.
 #[derive(Clone, Copy, PartialEq, Eq, Debug)]
 pub enum CollectFault {
     /// The answer under this number doesn't prove its operations.
     InvalidProof { request_id: u64 },
-    /// The part has another root than the target.
+    /// The part has another root than the current target.
     WrongRoot { found: Digest },
+    /// The later target begins below the current one, or doesn't end behind it.
+    StaleUpdate { start: Location, end: Location },
     /// Want of memory.
     OutOfMemory,
 }
@@ -53,7 +56,9 @@ pub enum SyncFault {
     InvalidProof { request_id: u64 },
     /// More messages came under numbers that aren't pending than a session lets through.
     TooManyStrays,
-    /// All was kept, and has another root than the target.
+    /// A later target was named that begins below the current one, or doesn't end behind it.
+    StaleUpdate { start: Location, end: Location },
+    /// All was kept, and has another root than the target that was synced.
     WrongRoot { found: Digest },
     /// The machine was closed before.
     Closed,

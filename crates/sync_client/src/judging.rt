@@ -1,7 +1,7 @@
 //! Which answers are kept.
 ghost use Rattle.std.specs.Prelude.{◌≡◌, ◌+◌, ◌<◌, ◌≤◌, length, count_ones, if◌then◌else◌};
 ghost use Rattle.sha2.specs.Sha256.{sha256};
-ghost use Rattle.sync_client.specs.Asking.{range_ok, nodes_good, nodes_of, good};
+ghost use Rattle.sync_client.specs.Asking.{judged_by, nodes_good, nodes_of, good};
 
 use crate::ranges::fits;
 use ledger_codec::{Digest, List};
@@ -21,32 +21,33 @@ fn has_nodes(start: Location, nodes: &Option<List<Digest>>) -> bool
     }
 }
 
-/// Whether a proof holds.
+/// Whether a proof holds in a target's tree.
 #[tactic(auto, unfolding(crate::specs::Asking::range_ok))]
 fn is_proved<Op: Leaf>(target: &Target, proof: &Proof, start: Location, ops: &[Op]) -> bool
     requires some { 0 < length ops.now }
     requires within { start + length ops.now ≤ target.now.end }
-    ensures { result ≡ range_ok sha256 Op.spelling target.now.root target.now.end proof.now start ops.now }
+    ensures { result ≡ judged_by sha256 Op.spelling target.now proof.now start ops.now }
 {
     check_range::<Sha256Hasher, Op>(&target.root, proof, target.end, start, ops).is_ok()
 }
 
-/// Whether an answer to a range is kept.
+/// Whether an answer to a range, which was asked for a target, is kept in a part with this start.
 #[tactic(auto, unfolding(crate::specs::Asking::good))]
 pub(crate) fn is_good<Op: Leaf + Copy>(
+    start: Location,
     target: &Target,
     asked: &Range<Location>,
     answer: &GetOperationsResponse<Op>,
 ) -> bool
     requires some { asked.now.start < asked.now.end }
     requires within { asked.now.end ≤ target.now.end }
-    ensures { result ≡ good (range_ok sha256 Op.spelling target.now.root target.now.end) target.now.start asked.now answer.now }
+    ensures { result ≡ good (judged_by sha256 Op.spelling target.now) start asked.now answer.now }
 {
     let ops = answer.operations.as_slice();
     if !fits(asked, ops.len()) {
         return false;
     }
-    if asked.start.get() == target.start.get() && !has_nodes(target.start, &answer.pinned_nodes) {
+    if asked.start.get() == start.get() && !has_nodes(start, &answer.pinned_nodes) {
         return false;
     }
     is_proved::<Op>(target, &answer.proof, asked.start, ops)

@@ -1,18 +1,22 @@
 //! The steps of a session: a machine that numbers asks, and a collector that keeps answers.
 ghost use Rattle.std.specs.Prelude.{◌≡◌, ◌-◌, ◌<◌, ◌≤◌, ◌^◌};
-ghost use Rattle.sync_client.specs.Seen.{Paired, range_of as range_seen};
+ghost use Rattle.sha2.specs.Sha256.{sha256};
+ghost use Rattle.sync_client.specs.Asking.{judged_by};
+ghost use Rattle.sync_client.specs.Collected.{ranges_of, IsOutstanding};
+ghost use Rattle.sync_client.specs.Seen.{Paired, beside, range_of as range_seen};
 ghost use Rattle.sync_client.specs.Session.{rules_for};
-ghost use Rattle.sync_client.specs.Steps.{AsksNext, TakesNext};
+ghost use Rattle.sync_client.specs.Steps.{AsksNext, TakesTarget, Heeds, TakesReply, TakesNext};
 ghost use Rattle.sync_client.specs.Tiles.{Tiles};
 
 use crate::collector::Collector;
 use crate::fault::{CollectFault, SyncFault};
+use crate::targets::Targets;
 use ledger_codec::{OutOfMemory, Spell};
 use ledger_log::Target;
 use ledger_merkle::{Leaf, Location};
 use std::num::NonZeroU64;
 use std::ops::Range;
-use sync_net::{Answer, Ask, Machine, MachineFault, Message, SubmitRefusal};
+use sync_net::{Answer, Ask, GetOperationsResponse, Machine, MachineFault, Message, SubmitRefusal};
 
 /// How many messages under numbers that aren't pending a session lets through.
 pub const MAX_STRAYS: u32 = 1024;
@@ -28,19 +32,18 @@ fn count_of(range: &Range<Location>) -> NonZeroU64
     }
 }
 
-/// The frame of the next ask, None where none may be sent.
+/// The frame of the next ask, which carries the current target's end; None where none may be sent.
 pub(crate) fn ask<Op: Leaf + Spell + Copy>(
-    target: &Target,
     machine: &mut Machine<Op>,
     collector: &mut Collector<Op>,
 ) -> Result<Option<Vec<u8>>, SyncFault>
-    requires target { collector.old.plan.target ≡ target.now }
     requires paired { Paired machine.old collector.old }
     ensures asks { AsksNext result Op.written machine.old machine.new collector.old collector.new }
     ensures tiles { Tiles collector.new }
     ensures plan { collector.new.plan ≡ collector.old.plan }
     ensures kept { collector.new.kept ≡ collector.old.kept }
 {
+    let target = collector.target();
     let range = match collector.next_ask() {
         Ok(Some(range)) => range,
         Ok(None) => return Ok(None),
@@ -86,18 +89,74 @@ fn no_range() -> Range<Location>
     }
 }
 
+/// Takes a later target that was named, or tells that it is stale.
+fn take_target<Op: Leaf + Spell + Copy>(
+    collector: &mut Collector<Op>,
+    target: Target,
+) -> Result<(), SyncFault>
+    requires { collector.old.plan.taken < 8 }
+    ensures takes { TakesTarget result target collector.old collector.new }
+    ensures tiles { Tiles collector.new }
+{
+    let start = target.start;
+    let end = target.end;
+    match collector.retarget(target) {
+        Ok(()) => Ok(()),
+        Err(_) => Err(SyncFault::StaleUpdate { start, end }),
+    }
+}
+
+/// Heeds the next answer on a later target: it is asked for once after a good answer that leaves something to
+/// fetch, while fewer than [`MAX_UPDATES`](crate::MAX_UPDATES) were taken.
+fn heed<Op: Leaf + Spell + Copy, Ts: Targets>(
+    collector: &mut Collector<Op>,
+    updates: &mut Ts,
+) -> Result<(), SyncFault>
+    ensures heeds { Heeds result collector.old collector.new (Ts.answers updates.old) (Ts.answers updates.new) }
+    ensures tiles { Tiles collector.new }
+{
+    if collector.is_settled() {
+        return Ok(());
+    }
+    match updates.next() {
+        None => Ok(()),
+        Some(target) => take_target(collector, target),
+    }
+}
+
+/// Takes an answer to what was asked under a number, and then heeds the next answer on a later target.
+fn take_reply<Op: Leaf + Spell + Copy, Ts: Targets>(
+    collector: &mut Collector<Op>,
+    asked: Range<Location>,
+    number: u64,
+    response: GetOperationsResponse<Op>,
+    updates: &mut Ts,
+) -> Result<(), SyncFault>
+    requires { IsOutstanding asked (ranges_of collector.old.pending) }
+    ensures replies { TakesReply result (judged_by sha256 Op.spelling) asked number response collector.old collector.new (Ts.answers updates.old) (Ts.answers updates.new) }
+    ensures tiles { Tiles collector.new }
+{
+    match collector.accept(asked, number, response) {
+        Ok(()) => heed(collector, updates),
+        Err(CollectFault::InvalidProof { request_id }) => Err(SyncFault::InvalidProof {
+            request_id,
+        }),
+        Err(CollectFault::OutOfMemory) => Err(SyncFault::OutOfMemory),
+        Err(_) => unreachable!(),
+    }
+}
+
 /// Takes the next whole frame that the machine holds; false where it holds none.
-pub(crate) fn take_next<Op: Leaf + Spell + Copy>(
+pub(crate) fn take_next<Op: Leaf + Spell + Copy, Ts: Targets>(
     machine: &mut Machine<Op>,
     collector: &mut Collector<Op>,
     strays: &mut u32,
+    updates: &mut Ts,
 ) -> Result<bool, SyncFault>
-    requires most { collector.old.plan.target.end ≤ 2 ^ 62 }
     requires tiles { Tiles collector.old }
     requires paired { Paired machine.old collector.old }
-    ensures takes { TakesNext result (rules_for Op.reading Op.written Op.spelling collector.old.plan.target) machine.old machine.new collector.old collector.new strays.old strays.new }
+    ensures takes { TakesNext result (rules_for Op.reading Op.written Op.spelling) machine.old machine.new collector.old collector.new (beside strays.old (Ts.answers updates.old)) (beside strays.new (Ts.answers updates.new)) }
     ensures tiles { Tiles collector.new }
-    ensures plan { collector.new.plan ≡ collector.old.plan }
 {
     match machine.next_answer() {
         Ok(None) => Ok(false),
@@ -115,13 +174,9 @@ pub(crate) fn take_next<Op: Leaf + Spell + Copy>(
                 message,
             } => match message {
                 Message::GetOperationsResponse(response) => {
-                    match collector.accept(range_of(&ask), number, response) {
+                    match take_reply(collector, range_of(&ask), number, response, updates) {
                         Ok(()) => Ok(true),
-                        Err(CollectFault::InvalidProof { request_id }) => {
-                            Err(SyncFault::InvalidProof { request_id })
-                        }
-                        Err(CollectFault::WrongRoot { found: _ }) => unreachable!(),
-                        Err(CollectFault::OutOfMemory) => Err(SyncFault::OutOfMemory),
+                        Err(fault) => Err(fault),
                     }
                 }
                 _ => unreachable!(),

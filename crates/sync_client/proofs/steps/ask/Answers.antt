@@ -12,8 +12,8 @@ returns-in-Ok-clause-asks g c =
     let e = rw c.in-Ok-Some.field-0-is at c.in-Ok-Some.ensures.asks in
     let w = rw c.in-Ok-Some.field-0-is at c.in-Ok-Some.ensures.within in
     let h = c.in-Ok.ensures in
-    made g.Op.Spell.written c.args.target.now c.args.machine.now c.submit_operations.new.self c.args.collector.now c.next_ask.new.self c.in-Ok-Some.range c.count_of-count.result c.get.result c.get-2.result c.in-Ok.submitted.number c.in-Ok.submitted.frame.items
-    c.get.ensures.same c.get-2.ensures.same c.requires.target c.requires.paired e w.0 c.count_of-count.ensures h.0 h.1 h.2 h.3
+    made g.Op.Spell.written c.target-target.result c.args.machine.now c.submit_operations.new.self c.args.collector.now c.next_ask.new.self c.in-Ok-Some.range c.count_of-count.result c.get.result c.get-2.result c.in-Ok.submitted.number c.in-Ok.submitted.frame.items
+    c.get.ensures.same c.get-2.ensures.same c.target-target.ensures.value c.requires.paired e w.0 c.count_of-count.ensures h.0 h.1 h.2 h.3
 
 pub returns-in-Ok-clause-plan : goal.returns-in-Ok-clause-plan
 returns-in-Ok-clause-plan g c =

@@ -14,7 +14,7 @@ use Rattle.sync_client.proofs.collector.Collector.finish_hashed.Goals as goal
 pub list_behind-requires-clause-nodes : goal.list_behind-requires-clause-nodes
 list_behind-requires-clause-nodes g c =
     let v : Collected g.row.Op.Denot = record {
-      plan = record { target = c.self.inside.target; limits = c.self.inside.limits };
+      plan = record { target = c.self.inside.target; limits = c.self.inside.limits; low = c.self.inside.low; taken = c.self.inside.taken };
       fresh = c.self.inside.fresh;
       rests = c.self.inside.rests.items;
       pending = c.self.inside.pending.items;
@@ -31,7 +31,7 @@ list_behind-requires-clause-nodes g c =
 pub list_behind-requires-clause-room : goal.list_behind-requires-clause-room
 list_behind-requires-clause-room g c =
     let v : Collected g.row.Op.Denot = record {
-      plan = record { target = c.self.inside.target; limits = c.self.inside.limits };
+      plan = record { target = c.self.inside.target; limits = c.self.inside.limits; low = c.self.inside.low; taken = c.self.inside.taken };
       fresh = c.self.inside.fresh;
       rests = c.self.inside.rests.items;
       pending = c.self.inside.pending.items;
@@ -47,7 +47,7 @@ list_behind-requires-clause-room g c =
 pub returns-then-ne-clause-finishes : goal.returns-then-ne-clause-finishes
 returns-then-ne-clause-finishes g c =
     let v : Collected g.row.Op.Denot = record {
-      plan = record { target = c.self.inside.target; limits = c.self.inside.limits };
+      plan = record { target = c.self.inside.target; limits = c.self.inside.limits; low = c.self.inside.low; taken = c.self.inside.taken };
       fresh = c.self.inside.fresh;
       rests = c.self.inside.rests.items;
       pending = c.self.inside.pending.items;
@@ -74,7 +74,7 @@ returns-then-ne-clause-finishes g c =
 pub returns-clause-finishes : goal.returns-clause-finishes
 returns-clause-finishes g c =
     let v : Collected g.row.Op.Denot = record {
-      plan = record { target = c.self.inside.target; limits = c.self.inside.limits };
+      plan = record { target = c.self.inside.target; limits = c.self.inside.limits; low = c.self.inside.low; taken = c.self.inside.taken };
       fresh = c.self.inside.fresh;
       rests = c.self.inside.rests.items;
       pending = c.self.inside.pending.items;
@@ -95,7 +95,7 @@ returns-clause-finishes g c =
 pub returns-clause-whole : goal.returns-clause-whole
 returns-clause-whole g c =
     let v : Collected g.row.Op.Denot = record {
-      plan = record { target = c.self.inside.target; limits = c.self.inside.limits };
+      plan = record { target = c.self.inside.target; limits = c.self.inside.limits; low = c.self.inside.low; taken = c.self.inside.taken };
       fresh = c.self.inside.fresh;
       rests = c.self.inside.rests.items;
       pending = c.self.inside.pending.items;
@@ -110,7 +110,7 @@ returns-clause-whole g c =
 pub returns-clause-one : goal.returns-clause-one
 returns-clause-one g c other =
     let v : Collected g.row.Op.Denot = record {
-      plan = record { target = c.self.inside.target; limits = c.self.inside.limits };
+      plan = record { target = c.self.inside.target; limits = c.self.inside.limits; low = c.self.inside.low; taken = c.self.inside.taken };
       fresh = c.self.inside.fresh;
       rests = c.self.inside.rests.items;
       pending = c.self.inside.pending.items;

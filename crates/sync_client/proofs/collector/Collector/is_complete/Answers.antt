@@ -7,7 +7,7 @@ use Rattle.sync_client.proofs.collector.Collector.is_complete.Goals as goal
 pub returns-clause-value : goal.returns-clause-value
 returns-clause-value g c =
     let v : Collected g.row.Op.Denot = record {
-      plan = record { target = c.self.inside.target; limits = c.self.inside.limits };
+      plan = record { target = c.self.inside.target; limits = c.self.inside.limits; low = c.self.inside.low; taken = c.self.inside.taken };
       fresh = c.self.inside.fresh;
       rests = c.self.inside.rests.items;
       pending = c.self.inside.pending.items;
