@@ -1,5 +1,5 @@
 -- The numbers of a session whose first number is 1 don't come to their end.
-use Rattle.std.proofs.Common.{◌≡◌, ℕ, zero, suc, ◌+◌, ◌-◌, ◌<◌, ◌≤◌, ◌^◌, Bool, true, false, List, [], ◌∷◌, ◌++◌, length, take, drop, Option, Some, None, Result, Ok, Err, nat_lt, if◌then◌else◌, remove, refl, sym, ap, subst, ◌∙◌, arith, inl, inr}
+use Rattle.std.proofs.Common.{◌≡◌, ℕ, suc, ◌+◌, ◌-◌, ◌<◌, ◌≤◌, ◌^◌, Bool, List, [], ◌∷◌, ◌++◌, length, take, drop, Option, Some, None, Result, Ok, Err, nat_lt, if◌then◌else◌, remove, refl, sym, ap, subst, ◌∙◌, arith, inl, inr}
 use Rattle.std.specs.declared.ops.Range.{Range}
 use Rattle.std.proofs.lemmas.Bool.{cases_Bool, ltb-true, lt-ltb}
 use Rattle.std.proofs.lemmas.List.{length-take, length-drop, length-append}
@@ -12,8 +12,8 @@ use Rattle.sync_net.specs.declared.message.Message.{Message}
 use Rattle.sync_net.specs.declared.message.Message.TheVariants as messages
 use Rattle.ledger_log.specs.declared.target.Target.{Target}
 use Rattle.sync_client.specs.Asking.{LimitsView, Plan, range_next, without_at, good}
-use Rattle.sync_client.specs.Session.{Ask, State, Rules, Offence, Next, Nothing, Send, Exhausted, ask_next, numbered, sending, started, with_answer, answered, taken_by, taken, take_frame, ask_under, place_of}
-use Rattle.sync_client.specs.Runs.{Sends, Reaches, Session, Exhausts}
+use Rattle.sync_client.specs.Session.{Ask, State, Rules, Send, Exhausted, ask_next, numbered, sending, started, with_answer, answered, taken_by, taken, take_frame, ask_under, place_of}
+use Rattle.sync_client.specs.Runs.{Sends, Reaches, Exhausts}
 use Rattle.sync_client.specs.Ending.{Origin, Over}
 use Rattle.sync_net.specs.Wire.{Wire}
 use Rattle.sync_client.proofs.Rising.{updated_so}

@@ -1,5 +1,5 @@
 -- The operations of the families are sent as sessions over a link that serves ask of them.
-use Rattle.std.proofs.Common.{◌≡◌, ℕ, ◌≤◌, List, ◌∷◌, ◌++◌, length, Option, Some, None, refl, arith, length-append}
+use Rattle.std.proofs.Common.{ℕ, ◌≤◌, List, length, Option, Some, None, refl, arith, length-append}
 use Rattle.ledger_codec.specs.Numbers.{varint}
 use Rattle.ledger_log.specs.declared.any.AnyOp.{AnyOp}
 use Rattle.ledger_log.specs.declared.any.AnyOp.TheVariants as any

@@ -107,6 +107,13 @@ enum Told {
     Other,
 }
 
+fn fault_told(fault: SyncFault) -> Told {
+    match fault {
+        SyncFault::StaleUpdate { start, end } => Told::Stale(start.get(), end.get()),
+        _ => Told::Other,
+    }
+}
+
 fn what_came(synced: Result<(Target, Part<KeylessOp>), SyncFault>) -> Told {
     match synced {
         Ok(synced) => Told::Synced(
@@ -114,8 +121,7 @@ fn what_came(synced: Result<(Target, Part<KeylessOp>), SyncFault>) -> Told {
             synced.0.end.get(),
             synced.1.ops.as_slice().len(),
         ),
-        Err(SyncFault::StaleUpdate { start, end }) => Told::Stale(start.get(), end.get()),
-        Err(_) => Told::Other,
+        Err(fault) => fault_told(fault),
     }
 }
 
