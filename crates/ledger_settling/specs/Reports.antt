@@ -44,6 +44,7 @@ leaves_of start pinned ops = record { front = start; pinned = pinned; leaves = l
 module _ {T A E : Type 0} (m : Meaning T A E) where
   -- the report of these blocks over this target
   pub record ReportOf (target : Target) (blocks : List (Block T)) (report : Report A) : Type 0 where
+    pub target_is : report.target ≡ target
     pub start : report.start ≡ target.start
     pub end : report.end ≡ target.end
     pub spans : Spans target report.pinned report.kept

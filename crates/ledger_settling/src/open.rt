@@ -81,6 +81,7 @@ fn settle_log<
     }
     let root = log.root();
     Ok(Report {
+        target: *target,
         start: target.start,
         end: target.end,
         pinned: List::from_vec(pinned),

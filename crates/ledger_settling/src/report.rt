@@ -2,7 +2,7 @@
 
 use ledger_codec::{Digest, List};
 use ledger_job::BlockVerdicts;
-use ledger_log::{AnyFamily, AnyOp, Key, Log};
+use ledger_log::{AnyFamily, AnyOp, Key, Log, Target};
 use ledger_merkle::{Location, Sha256Hasher};
 use std::collections::BTreeMap;
 
@@ -12,6 +12,8 @@ pub type Accounts<A> = BTreeMap<Key, A>;
 /// What was fetched, what the blocks made of it, and the accounts and verdicts.
 #[derive(Drop)]
 pub struct Report<A> {
+    /// The target that was synced.
+    pub target: Target,
     /// The first location that was fetched.
     pub start: Location,
     /// The location behind the last one that was fetched.

@@ -56,6 +56,7 @@ returns-clause-report g c =
     let kep = c.from_vec-2.ensures in
     let ver = c.from_vec-3.ensures in
     record {
+      target_is = refl;
       start = refl;
       end = refl;
       spans = subst (λ ps. Spans c.args.target.now ps c.from_vec-2.result) (sym pin) (subst (Spans c.args.target.now c.args.pinned.items) (sym kep) c.requires.spans);
