@@ -2,6 +2,7 @@
 
 mod damage;
 mod ends;
+mod later;
 mod orders;
 mod rows;
 mod vectors;
@@ -17,7 +18,7 @@ use ledger_transfers::Sequenced;
 use std::alloc::Global;
 use std::random::RandomSource;
 use std::thread::Threads;
-use sync_client::Limits;
+use sync_client::{Limits, NoTargets, Targets};
 use sync_net::{ErrorCode, Link};
 use sync_server::{MemoryLink, TapeLink};
 
@@ -34,6 +35,8 @@ enum Told {
     Server(ErrorCode, usize),
     InvalidProof(u64),
     TooManyStrays,
+    /// The places of a stale target.
+    StaleUpdate(u64, u64),
     WrongRoot(Digest),
     BadLog(u64),
     BadValue(u64),
@@ -51,6 +54,7 @@ fn fault_told(fault: Fault) -> Told {
         Fault::Server { code, message } => Told::Server(code, message.as_str().len()),
         Fault::InvalidProof { request_id } => Told::InvalidProof(request_id),
         Fault::TooManyStrays => Told::TooManyStrays,
+        Fault::StaleUpdate { start, end } => Told::StaleUpdate(start.get(), end.get()),
         Fault::WrongRoot { found } => Told::WrongRoot(found),
         Fault::BadLog { location } => Told::BadLog(location.get()),
         Fault::BadValue { location } => Told::BadValue(location.get()),
@@ -77,11 +81,24 @@ fn followed<R: RandomSource + Threads + Sync + AllocGlobal, L: Link>(
     blocks: &[Block<Payment>],
     link: &mut L,
 ) -> Told {
+    followed_on(rt, target, &mut NoTargets, limits, blocks, link)
+}
+
+/// The same, where later targets may be named.
+fn followed_on<R: RandomSource + Threads + Sync + AllocGlobal, L: Link, Ts: Targets>(
+    rt: &R,
+    target: &Target,
+    updates: &mut Ts,
+    limits: &Limits,
+    blocks: &[Block<Payment>],
+    link: &mut L,
+) -> Told {
     let alloc = rt.alloc();
-    match follow::<R, Payment, Sequenced, L, Sequential>(
+    match follow::<R, Payment, Sequenced, L, Sequential, Ts>(
         rt,
         alloc,
         target,
+        updates,
         limits,
         blocks,
         link,

@@ -31,7 +31,12 @@ def ask(number, end, start, most, pinned):
 
 def asks(end, ranges):
     """The frames of asks for these ranges, under the numbers from 1 on, of which the first begins the target."""
-    return b"".join(frame(ask(1 + i, end, a, b - a, i == 0)) for i, (a, b) in enumerate(ranges))
+    return rising([(end, a, b) for a, b in ranges])
+
+
+def rising(asked):
+    """The same, where each ask carries the end of its own target."""
+    return b"".join(frame(ask(1 + i, end, a, b - a, i == 0)) for i, (end, a, b) in enumerate(asked))
 
 
 # The log of four accounts, and what one payment of 1 from the first to the second makes of it.
@@ -90,6 +95,9 @@ def constants():
     yield "ONE_BY_ONE", "The asks of a log of 300, one at a time.", asks(300, short)
     two = [(0, 250), (250, 300), (100, 250), (200, 250)]
     yield "TWO_AT_ONCE", "The asks of a log of 300, two at a time.", asks(300, two)
+    last = [(9, 6, 8), (9, 8, 9)]
+    yield "RISEN_ONE", "The asks one at a time, where the end is 9 from the second answer on.", rising([(6, 0, 2), (6, 2, 4), (9, 4, 6)] + last)
+    yield "RISEN_THREE", "The asks three at a time.", rising([(6, 0, 2), (6, 2, 4), (6, 4, 6)] + last)
 
 
 if __name__ == "__main__":
