@@ -10,7 +10,7 @@ use Rattle.ledger_program.specs.Faults.{fault_of}
 use Rattle.ledger_program.specs.Run.{payments, IsJob, IsServed, FailsJob, LocalFails, Unfollowed, Attempted, run_fault_of}
 use Rattle.ledger_program.specs.Served.{served}
 use Rattle.ledger_program.specs.declared.fault.Fault.{Fault}
-use Rattle.ledger_program.specs.declared.fault.Fault.TheVariants.{Network, RequestChannelClosed, InvalidResponse, UnexpectedResponse, Server, InvalidProof, TooManyStrays, WrongRoot, BadLog, BadValue, Rejected, Full, OutOfMemory as FollowMemory}
+use Rattle.ledger_program.specs.declared.fault.Fault.TheVariants.{Network, RequestChannelClosed, InvalidResponse, UnexpectedResponse, Server, InvalidProof, TooManyStrays, StaleUpdate, WrongRoot, BadLog, BadValue, Rejected, Full, OutOfMemory as FollowMemory}
 use Rattle.ledger_program.specs.declared.outcome.RunFault.{RunFault}
 use Rattle.ledger_program.specs.declared.outcome.RunFault.TheVariants.{Usage, BadJob, JobRead, JobTooLarge, Dial, Follow, Output, OutOfMemory}
 use Rattle.ledger_settling.specs.Faults.{RunFails}
@@ -54,6 +54,7 @@ attempted form left before now job (Follow (UnexpectedResponse number)) e j f = 
 attempted form left before now job (Follow (Server code text)) e j f = absurd f
 attempted form left before now job (Follow (InvalidProof number)) e j f = absurd f
 attempted form left before now job (Follow TooManyStrays) e j f = absurd f
+attempted form left before now job (Follow (StaleUpdate start end)) e j f = absurd f
 attempted form left before now job (Follow (WrongRoot found)) e j f = absurd f
 attempted form left before now job (Follow (BadLog location)) e j f = absurd f
 attempted form left before now job (Follow (BadValue location)) e j f = absurd f

@@ -14,7 +14,7 @@ use Rattle.ledger_program.specs.Faults.{fault_of}
 use Rattle.ledger_program.specs.Run.{payments, max_job, IsServed, FailsJob, Unfollowed, IsSettling, Completes, Caused, status_of}
 use Rattle.ledger_program.specs.Served.{served, update_of, opened_of}
 use Rattle.ledger_program.specs.declared.fault.Fault.{Fault}
-use Rattle.ledger_program.specs.declared.fault.Fault.TheVariants.{Network, RequestChannelClosed, InvalidResponse, UnexpectedResponse, Server, InvalidProof, TooManyStrays, WrongRoot, BadLog, BadValue, Rejected, Full, OutOfMemory as FollowMemory}
+use Rattle.ledger_program.specs.declared.fault.Fault.TheVariants.{Network, RequestChannelClosed, InvalidResponse, UnexpectedResponse, Server, InvalidProof, TooManyStrays, StaleUpdate, WrongRoot, BadLog, BadValue, Rejected, Full, OutOfMemory as FollowMemory}
 use Rattle.ledger_program.specs.declared.outcome.RunFault.{RunFault}
 use Rattle.ledger_program.specs.declared.outcome.RunFault.TheVariants.{Usage, BadJob, JobRead, JobTooLarge, Dial, Follow, Output, OutOfMemory}
 use Rattle.ledger_settling.specs.Faults.{RunFails}
@@ -85,6 +85,7 @@ module _ (form : Bool) (text : List ℕ) (read_before read_now wrote_before wrot
   ends (Some (Follow (Server code text))) e c = absurd c
   ends (Some (Follow (InvalidProof number))) e c = absurd c
   ends (Some (Follow TooManyStrays)) e c = absurd c
+  ends (Some (Follow (StaleUpdate start end))) e c = absurd c
   ends (Some (Follow (WrongRoot found))) e c = absurd c
   ends (Some (Follow (BadLog location))) e c = absurd c
   ends (Some (Follow (BadValue location))) e c = absurd c

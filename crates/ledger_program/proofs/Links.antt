@@ -13,7 +13,7 @@ use Rattle.ledger_log.specs.declared.any.AnyOp.{AnyOp}
 use Rattle.ledger_log.specs.declared.target.Target.{Target}
 use Rattle.ledger_merkle.specs.Tree.{root, grow, part_root}
 use Rattle.ledger_program.proofs.Causes.{local_fails}
-use Rattle.ledger_program.specs.Follow.{FollowsLog, IsSteady, range_in}
+use Rattle.ledger_program.specs.Follow.{FollowsLog, Foretold, IsSteady, range_in}
 use Rattle.ledger_program.specs.Run.{payments, IsServed, ReportsJob, LocalFails, SpansLog, run_fault_of}
 use Rattle.ledger_program.specs.Served.{served}
 use Rattle.ledger_program.specs.declared.fault.Fault.{Fault}
@@ -54,6 +54,10 @@ ends ops target is = let e = is.end in omega arith
 pub short : (ops : List AnyOp) (target : Target) → target.end ≤ 2 ^ 62 → SpansLog target (whole_log ops) → 0 + length ops ≤ 2 ^ 62
 short ops target most is = let e = is.end in omega arith
 
+-- where no answers on later targets are to come, the target is the one that is synced
+pub foretold : (ops : List AnyOp) (target : Target) → Foretold (whole_log ops) target [] [] target
+foretold ops target = record { took = []; all = refl; later = tt; synced_is = record { start = refl; root = refl; end = refl } }
+
 -- a link to a whole log serves its target
 abbrev pub serves_whole : (ops : List AnyOp) (target : Target) → All IsSoundAny ops → target.end ≤ 2 ^ 62 → SpansLog target (whole_log ops) → Serves any_spelling IsSoundAny (data_of any_spelling any_floor (whole_log ops)) target
 serves_whole ops target sound most is = record {
@@ -82,13 +86,13 @@ module _ (job : Job) (ops : List AnyOp) (target : Target) (blocks : List (Block 
   serves_job = record { start = is.start; end = is.end ∙ ap length k }
 
   -- the report over such a link is the job's
-  pub reports_job : (report : Report Sequenced) → ReportOf payments target blocks report → FollowsLog payments (whole_log ops) target blocks (Ok report) → ReportsJob job report
+  pub reports_job : (report : Report Sequenced) → ReportOf payments report.target blocks report → FollowsLog payments (whole_log ops) target blocks (Ok report) → ReportsJob job report
   reports_job report of h = record {
-    target = target;
-    is_served = serves_job;
-    pinned = h.1 ∙ nodes_whole ops target is;
-    kept = h.0 ∙ (range_whole ops target is ∙ k);
-    report_is = subst (λ (bs : List (Block Payment)). ReportOf payments target bs report) b of;
+    target = report.target;
+    is_served = record { start = h.0.start ∙ is.start; end = h.0.end ∙ is.end ∙ ap length k };
+    pinned = h.2 ∙ nodes_whole ops target is;
+    kept = h.1 ∙ (range_whole ops target is ∙ k);
+    report_is = subst (λ (bs : List (Block Payment)). ReportOf payments report.target bs report) b of;
   }
 
   module _ (w : IsWhole target.start ops) where
@@ -107,6 +111,7 @@ module _ (job : Job) (ops : List AnyOp) (target : Target) (blocks : List (Block 
     fails_job (faults.Server code text) before now h steady = absurd h
     fails_job (faults.InvalidProof number) before now h steady = absurd h
     fails_job faults.TooManyStrays before now h steady = absurd h
+    fails_job (faults.StaleUpdate start end) before now h steady = absurd h
     fails_job (faults.WrongRoot found) before now h steady = absurd h
     fails_job (faults.BadLog location) before now h steady = local_fails job target (range_in (whole_log ops) target) blocks serves_job range_is b range_whole_is (causes.BadLog location) h
     fails_job (faults.BadValue location) before now h steady = local_fails job target (range_in (whole_log ops) target) blocks serves_job range_is b range_whole_is (causes.BadValue location) h

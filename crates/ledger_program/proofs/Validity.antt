@@ -89,25 +89,26 @@ module _ {T A E : Type 0} (m : Meaning T A E) where
   -- ---- the whole call
 
   -- a fault over valid input is want of memory
-  pub only_memory : {IsSound : A → Type 0} (laws : ValueLaws m.same IsSound m.rules m.values) (log : LogView AnyOp) (target : Target) (blocks : List (Block T)) (o : Origin AnyOp) (wire : Option Wire) (risen : ℕ) (fault : Fault) → AllByRecursion (IsWritten m) (range_in log target) → IsValid m log target blocks → (Rose o.count risen → ⊥)
-      → FollowsLog m log target blocks (Err fault) → FollowFails m o wire risen blocks fault → fault ≡ faults.OutOfMemory
-  only_memory laws log target blocks o wire risen faults.Network h valid still served fails = absurd (still (let lt = fails.stopped.0 in omega arith))
-  only_memory laws log target blocks o wire risen faults.RequestChannelClosed h valid still served fails = absurd served
-  only_memory laws log target blocks o wire risen faults.InvalidResponse h valid still served fails = absurd served
-  only_memory laws log target blocks o wire risen (faults.UnexpectedResponse number) h valid still served fails = absurd served
-  only_memory laws log target blocks o wire risen (faults.Server code text) h valid still served fails = absurd served
-  only_memory laws log target blocks o wire risen (faults.InvalidProof number) h valid still served fails = absurd served
-  only_memory laws log target blocks o wire risen faults.TooManyStrays h valid still served fails = absurd served
-  only_memory laws log target blocks o wire risen (faults.WrongRoot found) h valid still served fails = absurd served
-  only_memory laws log target blocks o wire risen (faults.BadLog location) h valid still served fails = absurd (served.1 valid.whole)
-  only_memory laws log target blocks o wire risen (faults.BadValue location) h valid still served fails =
+  pub only_memory : {IsSound : A → Type 0} (laws : ValueLaws m.same IsSound m.rules m.values) (log : LogView AnyOp) (target : Target) (blocks : List (Block T)) (o : Origin AnyOp) (now : List (Option Target)) (wire : Option Wire) (risen : ℕ) (fault : Fault) → AllByRecursion (IsWritten m) (range_in log target) → IsValid m log target blocks → (Rose o.count risen → ⊥)
+      → FollowsLog m log target blocks (Err fault) → FollowFails m o now wire risen blocks fault → fault ≡ faults.OutOfMemory
+  only_memory laws log target blocks o now wire risen faults.Network h valid still served fails = absurd (still (let lt = fails.stopped.0 in omega arith))
+  only_memory laws log target blocks o now wire risen faults.RequestChannelClosed h valid still served fails = absurd served
+  only_memory laws log target blocks o now wire risen faults.InvalidResponse h valid still served fails = absurd served
+  only_memory laws log target blocks o now wire risen (faults.UnexpectedResponse number) h valid still served fails = absurd served
+  only_memory laws log target blocks o now wire risen (faults.Server code text) h valid still served fails = absurd served
+  only_memory laws log target blocks o now wire risen (faults.InvalidProof number) h valid still served fails = absurd served
+  only_memory laws log target blocks o now wire risen faults.TooManyStrays h valid still served fails = absurd served
+  only_memory laws log target blocks o now wire risen (faults.StaleUpdate start end) h valid still served fails = absurd served
+  only_memory laws log target blocks o now wire risen (faults.WrongRoot found) h valid still served fails = absurd served
+  only_memory laws log target blocks o now wire risen (faults.BadLog location) h valid still served fails = absurd (served.1 valid.whole)
+  only_memory laws log target blocks o now wire risen (faults.BadValue location) h valid still served fails =
       let bad = served.1 in
       absurd (unread bad.op (All-at (IsReadable m.values) (range_in log target) bad.place bad.op bad.at valid.readable) bad.unreadable)
-  only_memory laws log target blocks o wire risen (faults.Rejected block rejection) h valid still served fails =
+  only_memory laws log target blocks o now wire risen (faults.Rejected block rejection) h valid still served fails =
       let f = served.2 in
       absurd (never_rejected m laws blocks valid.verdicts (range_in log target) valid.all h valid.runs block f.before.verdicts f.before.all f.batch rejection f.before.runs f.at f.offence)
-  only_memory laws log target blocks o wire risen (faults.Full block) h valid still served fails =
+  only_memory laws log target blocks o now wire risen (faults.Full block) h valid still served fails =
       let f = served.2 in
       let k = none_long blocks valid.verdicts (range_in log target) valid.all valid.runs block f.before.verdicts f.before.all f.block f.verdict f.before.runs f.at f.settles in
       absurd (let l = f.long in let r = valid.room in omega arith)
-  only_memory laws log target blocks o wire risen faults.OutOfMemory h valid still served fails = refl
+  only_memory laws log target blocks o now wire risen faults.OutOfMemory h valid still served fails = refl

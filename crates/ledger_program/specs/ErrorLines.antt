@@ -7,7 +7,7 @@ use Rattle.sync_net.specs.declared.code.ErrorCode.{ErrorCode}
 use Rattle.sync_net.specs.declared.code.ErrorCode.TheVariants.{InvalidRequest, DatabaseError, NetworkError, StaleTarget, Timeout, InternalError}
 use Rattle.ledger_program.specs.Text.{key_text}
 use Rattle.ledger_program.specs.declared.fault.Fault.{Fault}
-use Rattle.ledger_program.specs.declared.fault.Fault.TheVariants.{Network, RequestChannelClosed, InvalidResponse, UnexpectedResponse, Server, InvalidProof, TooManyStrays, WrongRoot, BadLog, BadValue, Rejected, Full, OutOfMemory}
+use Rattle.ledger_program.specs.declared.fault.Fault.TheVariants.{Network, RequestChannelClosed, InvalidResponse, UnexpectedResponse, Server, InvalidProof, TooManyStrays, StaleUpdate, WrongRoot, BadLog, BadValue, Rejected, Full, OutOfMemory}
 use Rattle.ledger_program.specs.declared.outcome.RunFault.{RunFault}
 use Rattle.ledger_program.specs.declared.outcome.RunFault.TheVariants.{Usage, BadJob, JobRead, JobTooLarge, Dial, Follow, Output, OutOfMemory as NoMemory}
 use Rattle.ledger_transfers.specs.declared.fault.Rejection.{Rejection}
@@ -54,7 +54,11 @@ server_start code = concat (codes "error server " ∷ decimal (code_number code)
 abbrev pub server_line : ErrorCode → List ℕ → List ℕ
 server_line code message = (server_start code ++ printable message) ++ codes "\n"
 
--- the line of a root that isn't the target's
+-- the line of a later target that isn't taken
+unfoldable pub update_line : ℕ → ℕ → List ℕ
+update_line start end = concat (codes "error " ∷ codes "update" ∷ codes " " ∷ decimal start ∷ codes " " ∷ decimal end ∷ codes "\n" ∷ [])
+
+-- the line of a root that isn't that of the synced target
 unfoldable pub root_line : List ℕ → List ℕ
 root_line found = concat (codes "error root " ∷ encode_lower found ∷ codes "\n" ∷ [])
 
@@ -67,6 +71,7 @@ follow_line (UnexpectedResponse number) = number_line (codes "unexpected") numbe
 follow_line (Server code message) = server_line code message
 follow_line (InvalidProof number) = number_line (codes "proof") number
 follow_line TooManyStrays = codes "error strays\n"
+follow_line (StaleUpdate start end) = update_line start end
 follow_line (WrongRoot found) = root_line found
 follow_line (BadLog location) = number_line (codes "log") location
 follow_line (BadValue location) = number_line (codes "value") location

@@ -1,5 +1,5 @@
 -- What following a log over a link gives, and why it fails.
-use Rattle.std.specs.Prelude.{◌≡◌, ℕ, ◌≤◌, ◌+◌, ◌-◌, ◌^◌, All, length, false, List, [], Option, Some, Result, Ok, Err, ⊤}
+use Rattle.std.specs.Prelude.{◌≡◌, ◌⊎◌, ℕ, ◌<◌, ◌≤◌, ◌+◌, ◌-◌, ◌^◌, ◌∷◌, ◌++◌, All, length, false, List, [], Option, Some, Result, Ok, Err, ⊤}
 use Rattle.sha2.specs.Sha256.{sha256}
 use Rattle.ledger_log.specs.View.{LogView, log_range, log_peaks_at}
 use Rattle.ledger_job.specs.declared.block.Block.{Block}
@@ -9,7 +9,7 @@ use Rattle.ledger_log.specs.declared.any.AnyOp.{AnyOp}
 use Rattle.ledger_log.specs.declared.target.Target.{Target}
 use Rattle.ledger_merkle.specs.declared.proof.Part.{Part as Fetched}
 use Rattle.ledger_program.specs.declared.fault.Fault.{Fault}
-use Rattle.ledger_program.specs.declared.fault.Fault.TheVariants.{Network, RequestChannelClosed, InvalidResponse, UnexpectedResponse, Server, InvalidProof, TooManyStrays, WrongRoot, BadLog, BadValue, Rejected, Full, OutOfMemory}
+use Rattle.ledger_program.specs.declared.fault.Fault.TheVariants.{Network, RequestChannelClosed, InvalidResponse, UnexpectedResponse, Server, InvalidProof, TooManyStrays, StaleUpdate, WrongRoot, BadLog, BadValue, Rejected, Full, OutOfMemory}
 use Rattle.ledger_job.specs.declared.block.BlockVerdicts.{BlockVerdicts}
 use Rattle.ledger_settling.specs.Blocks.{Meaning, IsReadable, RunsTo}
 use Rattle.ledger_settling.specs.Faults.{RunFails}
@@ -18,6 +18,8 @@ use Rattle.ledger_settling.specs.declared.fault.ReportFault.{ReportFault}
 use Rattle.ledger_settling.specs.declared.fault.ReportFault.TheVariants as causes
 use Rattle.ledger_settling.specs.declared.report.Report.{Report}
 use Rattle.sync_client.specs.Asking.{LimitsView}
+use Rattle.sync_client.specs.Serving.{HasLater}
+use Rattle.sync_client.specs.Updates.{AreTaken, IsSynced, IsFresh, last_of, targets_in}
 use Rattle.sync_client.specs.Ending.{Origin, origin_of, Finished, Stopped}
 use Rattle.sync_client.specs.declared.fault.SyncFault.{SyncFault}
 use Rattle.sync_client.specs.declared.fault.SyncFault.TheVariants as sync
@@ -28,19 +30,19 @@ use Rattle.sync_net.specs.Wire.{Wire}
 abbrev pub idle : Option ℕ → MachineView
 idle next = record { next = next; pending = []; held = []; closed = false }
 
--- how the call begins: with an idle machine, whose first number is 1
-abbrev pub beginning : Target → LimitsView → Option Wire → ℕ → Origin AnyOp
-beginning target limits wire count = origin_of any_at any_spelling any_spelling target limits (idle (Some 1)) wire count
+-- how the call begins: with these answers on later targets to come, and an idle machine, whose first number is 1
+abbrev pub beginning : Target → List (Option Target) → LimitsView → Option Wire → ℕ → Origin AnyOp
+beginning target updates limits wire count = origin_of any_at any_spelling any_spelling target updates limits (idle (Some 1)) wire count
 
--- the session over what the link gave made this part
-pub record IsFetched (o : Origin AnyOp) (wire : Option Wire) (part : Fetched AnyOp) : Type 0 where
+-- the session over what the link gave synced this target and made this part of it, and these answers are left
+pub record IsFetched (o : Origin AnyOp) (updates : List (Option Target)) (wire : Option Wire) (synced : Target) (part : Fetched AnyOp) : Type 0 where
   pub machine : MachineView
-  pub finished : Finished o part machine wire
+  pub finished : Finished o synced part machine updates wire
 
--- the session over what the link gave ended with this fault
-pub record IsStopped (o : Origin AnyOp) (wire : Option Wire) (count : ℕ) (fault : SyncFault) : Type 0 where
+-- the session over what the link gave ended with this fault, and these answers are left
+pub record IsStopped (o : Origin AnyOp) (updates : List (Option Target)) (wire : Option Wire) (count : ℕ) (fault : SyncFault) : Type 0 where
   pub machine : MachineView
-  pub stopped : Stopped o fault machine wire count
+  pub stopped : Stopped o fault machine updates wire count
 
 -- a fault of the session as one of the whole call, which begins with an open machine and its first number
 abbrev pub fault_of_sync : SyncFault → Fault
@@ -51,6 +53,7 @@ fault_of_sync (sync.UnexpectedResponse number) = UnexpectedResponse number
 fault_of_sync (sync.Server code text) = Server code text
 fault_of_sync (sync.InvalidProof number) = InvalidProof number
 fault_of_sync sync.TooManyStrays = TooManyStrays
+fault_of_sync (sync.StaleUpdate start end) = StaleUpdate start end
 fault_of_sync (sync.WrongRoot found) = WrongRoot found
 fault_of_sync sync.Closed = OutOfMemory
 fault_of_sync sync.Exhausted = OutOfMemory
@@ -63,44 +66,61 @@ MayStop sync.Exhausted = ⊥
 MayStop fault = ⊤
 
 module _ {T A E : Type 0} (m : Meaning T A E) where
-  -- the part that was fetched, and the report of these blocks over it
-  pub record Follows (o : Origin AnyOp) (wire : Option Wire) (blocks : List (Block T)) (report : Report A) : Type 0 where
+  -- the part that was fetched of the target that was synced, and the report of these blocks over it
+  pub record Follows (o : Origin AnyOp) (updates : List (Option Target)) (wire : Option Wire) (blocks : List (Block T)) (report : Report A) : Type 0 where
     pub part : Fetched AnyOp
-    pub fetched : IsFetched o wire part
+    pub fetched : IsFetched o updates wire report.target part
     pub pinned : report.pinned ≡ part.pinned
     pub kept : report.kept ≡ part.ops
-    pub report_is : ReportOf m o.start.plan.target blocks report
+    pub report_is : ReportOf m report.target blocks report
 
-  -- the part that was fetched, over which these blocks have no report, for this cause
-  pub record HasNoReport (o : Origin AnyOp) (wire : Option Wire) (blocks : List (Block T)) (cause : ReportFault) : Type 0 where
+  -- the part that was fetched of the target that was synced, over which these blocks have no report, for this cause
+  pub record HasNoReport (o : Origin AnyOp) (updates : List (Option Target)) (wire : Option Wire) (blocks : List (Block T)) (cause : ReportFault) : Type 0 where
+    pub synced : Target
     pub part : Fetched AnyOp
-    pub fetched : IsFetched o wire part
-    pub fails : RunFails m o.start.plan.target part.ops blocks cause
+    pub fetched : IsFetched o updates wire synced part
+    pub fails : RunFails m synced part.ops blocks cause
 
   -- why a log wasn't followed: the first offence of the session, or else why its part and the blocks have no report
-  abbrev pub FollowFails : Origin AnyOp → Option Wire → ℕ → List (Block T) → Fault → Type 0
-  FollowFails o wire count blocks Network = IsStopped o wire count sync.Network
-  FollowFails o wire count blocks RequestChannelClosed = IsStopped o wire count sync.RequestChannelClosed
-  FollowFails o wire count blocks InvalidResponse = IsStopped o wire count sync.InvalidResponse
-  FollowFails o wire count blocks (UnexpectedResponse number) = IsStopped o wire count (sync.UnexpectedResponse number)
-  FollowFails o wire count blocks (Server code text) = IsStopped o wire count (sync.Server code text)
-  FollowFails o wire count blocks (InvalidProof number) = IsStopped o wire count (sync.InvalidProof number)
-  FollowFails o wire count blocks TooManyStrays = IsStopped o wire count sync.TooManyStrays
-  FollowFails o wire count blocks (WrongRoot found) = IsStopped o wire count (sync.WrongRoot found)
-  FollowFails o wire count blocks (BadLog location) = HasNoReport o wire blocks (causes.BadLog location)
-  FollowFails o wire count blocks (BadValue location) = HasNoReport o wire blocks (causes.BadValue location)
-  FollowFails o wire count blocks (Rejected block rejection) = HasNoReport o wire blocks (causes.Rejected block rejection)
-  FollowFails o wire count blocks (Full block) = HasNoReport o wire blocks (causes.Full block)
-  FollowFails o wire count blocks OutOfMemory = ⊤
+  abbrev pub FollowFails : Origin AnyOp → List (Option Target) → Option Wire → ℕ → List (Block T) → Fault → Type 0
+  FollowFails o updates wire count blocks Network = IsStopped o updates wire count sync.Network
+  FollowFails o updates wire count blocks RequestChannelClosed = IsStopped o updates wire count sync.RequestChannelClosed
+  FollowFails o updates wire count blocks InvalidResponse = IsStopped o updates wire count sync.InvalidResponse
+  FollowFails o updates wire count blocks (UnexpectedResponse number) = IsStopped o updates wire count (sync.UnexpectedResponse number)
+  FollowFails o updates wire count blocks (Server code text) = IsStopped o updates wire count (sync.Server code text)
+  FollowFails o updates wire count blocks (InvalidProof number) = IsStopped o updates wire count (sync.InvalidProof number)
+  FollowFails o updates wire count blocks TooManyStrays = IsStopped o updates wire count sync.TooManyStrays
+  FollowFails o updates wire count blocks (StaleUpdate start end) = IsStopped o updates wire count (sync.StaleUpdate start end)
+  FollowFails o updates wire count blocks (WrongRoot found) = IsStopped o updates wire count (sync.WrongRoot found)
+  FollowFails o updates wire count blocks (BadLog location) = HasNoReport o updates wire blocks (causes.BadLog location)
+  FollowFails o updates wire count blocks (BadValue location) = HasNoReport o updates wire blocks (causes.BadValue location)
+  FollowFails o updates wire count blocks (Rejected block rejection) = HasNoReport o updates wire blocks (causes.Rejected block rejection)
+  FollowFails o updates wire count blocks (Full block) = HasNoReport o updates wire blocks (causes.Full block)
+  FollowFails o updates wire count blocks OutOfMemory = IsStopped o updates wire count sync.OutOfMemory ⊎ HasNoReport o updates wire blocks causes.OutOfMemory
+
+-- What a call took off the list of answers on later targets. The report's target is that of the last one taken; a target is refused as stale exactly after all that were taken.
+abbrev pub TakesLater : {A : Type 0} → Result (Report A) Fault → Target → List (Option Target) → List (Option Target) → Type 0
+TakesLater (Ok report) target before now = (took : List (Option Target)) × AreTaken target took before now × IsSynced target (last_of target (targets_in took)) report.target
+TakesLater (Err (StaleUpdate start end)) target before now =
+    (took : List (Option Target)) × (stale : Target) × AreTaken target took before (Some stale ∷ now) × (length (targets_in took) < 8)
+    × (IsFresh (last_of target (targets_in took)) stale → ⊥) × (start ≡ stale.start) × (end ≡ stale.end)
+TakesLater (Err fault) target before now = (took : List (Option Target)) × AreTaken target took before now
+
+-- the answers on later targets that a call took off the list; the log has each target among them, each fresh after the one before it; and this target has the first start, and the root and end of the last one
+pub record Foretold (log : LogView AnyOp) (target : Target) (before now : List (Option Target)) (synced : Target) : Type 0 where
+  pub took : List (Option Target)
+  pub all : before ≡ took ++ now
+  pub later : HasLater any_spelling log target (targets_in took)
+  pub synced_is : IsSynced target (last_of target (targets_in took)) synced
 
 -- the operations of the target's range
 abbrev pub range_in : LogView AnyOp → Target → List AnyOp
 range_in log target = log_range log target.start (target.end - target.start)
 
 module _ {T A E : Type 0} (m : Meaning T A E) where
-  -- Over a link that serves this log what was fetched is the log's own: its operations, and its nodes where they begin. Without a report a call of the link failed, memory was wanting, or the log's own operations and the blocks have none.
+  -- Over a link that serves this log what was fetched is the log's own range of the synced target: its operations, and its nodes where they begin. Without a report a call of the link failed, memory was wanting, or the log's own operations and the blocks have none.
   abbrev pub FollowsLog : LogView AnyOp → Target → List (Block T) → Result (Report A) Fault → Type 0
-  FollowsLog log target blocks (Ok report) = (report.kept ≡ range_in log target) × (report.pinned ≡ log_peaks_at sha256 any_spelling log target.start)
+  FollowsLog log target blocks (Ok report) = IsSynced target target report.target × (report.kept ≡ range_in log target) × (report.pinned ≡ log_peaks_at sha256 any_spelling log target.start)
   FollowsLog log target blocks (Err (BadLog location)) = RunFails m target (range_in log target) blocks (causes.BadLog location)
   FollowsLog log target blocks (Err (BadValue location)) = RunFails m target (range_in log target) blocks (causes.BadValue location)
   FollowsLog log target blocks (Err (Rejected block rejection)) = RunFails m target (range_in log target) blocks (causes.Rejected block rejection)

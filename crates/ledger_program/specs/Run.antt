@@ -19,7 +19,7 @@ use Rattle.ledger_program.specs.Served.{served}
 use Rattle.ledger_program.specs.Text.{text_of}
 use Rattle.ledger_program.specs.Writing.{AppendsFront}
 use Rattle.ledger_program.specs.declared.fault.Fault.{Fault}
-use Rattle.ledger_program.specs.declared.fault.Fault.TheVariants.{Network, RequestChannelClosed, InvalidResponse, UnexpectedResponse, Server, InvalidProof, TooManyStrays, WrongRoot, BadLog, BadValue, Rejected, Full, OutOfMemory as FollowMemory}
+use Rattle.ledger_program.specs.declared.fault.Fault.TheVariants.{Network, RequestChannelClosed, InvalidResponse, UnexpectedResponse, Server, InvalidProof, TooManyStrays, StaleUpdate, WrongRoot, BadLog, BadValue, Rejected, Full, OutOfMemory as FollowMemory}
 use Rattle.ledger_program.specs.declared.outcome.RunFault.{RunFault}
 use Rattle.ledger_program.specs.declared.outcome.RunFault.TheVariants.{Usage, BadJob, JobRead, JobTooLarge, Dial, Follow, Output, OutOfMemory}
 use Rattle.ledger_settling.specs.Blocks.{Meaning, meaning, RunsTo}
@@ -163,6 +163,7 @@ follow_status (UnexpectedResponse number) = 7
 follow_status (Server code message) = 7
 follow_status TooManyStrays = 7
 follow_status (InvalidProof number) = 8
+follow_status (StaleUpdate start end) = 8
 follow_status (WrongRoot found) = 8
 follow_status (BadLog location) = 8
 follow_status (BadValue location) = 8

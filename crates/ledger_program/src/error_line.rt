@@ -3,16 +3,16 @@ ghost use Rattle.std.specs.Prelude.{◌≡◌, ◌++◌, ◌∷◌, [], codes, i
 ghost use Rattle.std.specs.Fmt.{decimal};
 ghost use Rattle.std.specs.List.{concat};
 ghost use Rattle.hex.specs.Hex.{encode_lower};
-ghost use Rattle.ledger_program.specs.ErrorLines.{number_line, key_line, rejection_line, code_number, printable, server_start, server_line, root_line, follow_line, line_of};
+ghost use Rattle.ledger_program.specs.ErrorLines.{number_line, key_line, rejection_line, code_number, printable, server_start, server_line, update_line, root_line, follow_line, line_of};
 ghost use Rattle.ledger_program.specs.Text.{key_text};
 ghost use Rattle.ledger_program.specs.Writing.{Writes};
 
+use crate::digits::decimal_digits;
 use crate::fault::Fault;
 use crate::key_text::{hex_digits, hex_key, is_filled_name, name_of};
 use crate::outcome::RunFault;
 use crate::printable::write_printed;
 use crate::writing::{write_all, write_pieces};
-use itoa::Buffer;
 use ledger_codec::{Digest, Sink, SinkError};
 use ledger_log::Key;
 use ledger_transfers::Rejection;
@@ -23,37 +23,37 @@ fn number_line<K: Sink>(out: &mut K, words: &str, number: u64) -> Result<(), Sin
     ensures { Writes K.grows (K.written out.old) (K.written out.new) (K.faults out.old) (K.faults out.new)
         (number_line words.now number) result }
 {
-    let mut digits = Buffer::new();
-    let number = digits.format(number);
+    let mut digits = [0; 20];
+    let number = decimal_digits(number, &mut digits);
     write_pieces(
         out,
         &[
             b"error ".as_slice(),
             words.as_bytes(),
             b" ".as_slice(),
-            number.as_bytes(),
+            number,
             b"\n".as_slice(),
         ],
     )
 }
 
-/// The line of a word, a block and the text of a key.
-fn text_line<K: Sink>(out: &mut K, word: &str, block: u64, key: &[u8]) -> Result<(), SinkError>
+/// The line of a word, a number, which is that of a block or a place, and a text, which is that of a key or a place.
+fn text_line<K: Sink>(out: &mut K, word: &str, number: u64, text: &[u8]) -> Result<(), SinkError>
     ensures { Writes K.grows (K.written out.old) (K.written out.new) (K.faults out.old) (K.faults out.new)
-        (concat (codes "error " ∷ word.now ∷ codes " " ∷ decimal block ∷ codes " " ∷ key.now ∷ codes "\n" ∷ []))
+        (concat (codes "error " ∷ word.now ∷ codes " " ∷ decimal number ∷ codes " " ∷ text.now ∷ codes "\n" ∷ []))
         result }
 {
-    let mut digits = Buffer::new();
-    let block = digits.format(block);
+    let mut digits = [0; 20];
+    let number = decimal_digits(number, &mut digits);
     write_pieces(
         out,
         &[
             b"error ".as_slice(),
             word.as_bytes(),
             b" ".as_slice(),
-            block.as_bytes(),
+            number,
             b" ".as_slice(),
-            key,
+            text,
             b"\n".as_slice(),
         ],
     )
@@ -107,16 +107,9 @@ fn server_start<K: Sink>(out: &mut K, code: ErrorCode) -> Result<(), SinkError>
     ensures { Writes K.grows (K.written out.old) (K.written out.new) (K.faults out.old) (K.faults out.new)
         (server_start code) result }
 {
-    let mut digits = Buffer::new();
-    let number = digits.format(code_number(code));
-    write_pieces(
-        out,
-        &[
-            b"error server ".as_slice(),
-            number.as_bytes(),
-            b" ".as_slice(),
-        ],
-    )
+    let mut digits = [0; 20];
+    let number = decimal_digits(code_number(code), &mut digits);
+    write_pieces(out, &[b"error server ".as_slice(), number, b" ".as_slice()])
 }
 
 /// The line of a server's refusal, whose text is whatever the peer sent.
@@ -133,6 +126,16 @@ fn server_line<K: Sink>(out: &mut K, code: ErrorCode, message: &str) -> Result<(
         Err(fault) => return Err(fault),
     }
     write_all(out, b"\n")
+}
+
+#[tactic(auto, unfolding(crate::specs::ErrorLines::update_line))]
+fn update_line<K: Sink>(out: &mut K, start: u64, end: u64) -> Result<(), SinkError>
+    ensures { Writes K.grows (K.written out.old) (K.written out.new) (K.faults out.old) (K.faults out.new)
+        (update_line start end) result }
+{
+    let mut digits = [0; 20];
+    let end = decimal_digits(end, &mut digits);
+    text_line(out, "update", start, end)
 }
 
 fn digits_line<K: Sink>(out: &mut K, digits: &[u8]) -> Result<(), SinkError>
@@ -163,6 +166,7 @@ fn follow_line<K: Sink>(out: &mut K, fault: &Fault) -> Result<(), SinkError>
         Fault::Server { code, message } => server_line(out, *code, message.as_str()),
         Fault::InvalidProof { request_id } => number_line(out, "proof", *request_id),
         Fault::TooManyStrays => write_all(out, b"error strays\n"),
+        Fault::StaleUpdate { start, end } => update_line(out, start.get(), end.get()),
         Fault::WrongRoot { found } => root_line(out, found),
         Fault::BadLog { location } => number_line(out, "log", location.get()),
         Fault::BadValue { location } => number_line(out, "value", location.get()),

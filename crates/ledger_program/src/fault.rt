@@ -33,7 +33,12 @@ pub enum Fault {
     },
     /// More than 1,024 messages came under numbers that weren't pending.
     TooManyStrays,
-    /// The operations and nodes have this root, which isn't the target's.
+    /// A later target was named that begins below the one taken last, or doesn't end behind it; these are its places.
+    StaleUpdate {
+        start: Location,
+        end: Location,
+    },
+    /// The operations and nodes have this root, which isn't that of the target that was synced.
     WrongRoot {
         found: Digest,
     },

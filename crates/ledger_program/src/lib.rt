@@ -14,6 +14,7 @@
 //! job, the printed report and the error lines are described in docs/FORMATS.md.
 #![tactic(auto)]
 
+mod digits;
 mod error_line;
 mod fault;
 mod following;

@@ -20,7 +20,7 @@ use ledger_transfers::Sequenced;
 use std::alloc::Global;
 use std::random::RandomSource;
 use std::thread::Threads;
-use sync_client::Limits;
+use sync_client::{Limits, NoTargets};
 use sync_server::MemoryLink;
 
 /// The target of a whole log.
@@ -88,6 +88,7 @@ pub(crate) fn follow_local<R: RandomSource + Threads + Sync, St: Strategy>(
         rt,
         alloc,
         &target,
+        &mut NoTargets,
         &limits,
         job.blocks.as_slice(),
         &mut link,

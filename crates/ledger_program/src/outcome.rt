@@ -70,6 +70,7 @@ fn follow_status(fault: &Fault) -> u8
         | Fault::Server { .. }
         | Fault::TooManyStrays => 7,
         Fault::InvalidProof { .. }
+        | Fault::StaleUpdate { .. }
         | Fault::WrongRoot { .. }
         | Fault::BadLog { .. }
         | Fault::BadValue { .. } => 8,

@@ -4,6 +4,7 @@ use crate::error_line::error_line;
 use crate::outcome::status_of;
 use crate::reading::{ReadFault, read_all};
 use ledger_codec::{MemorySink, MemorySource, Sink, SinkError, Text};
+use ledger_merkle::Location;
 use std::process::Abort;
 use std::random::RandomSource;
 use std::test::Fail;
@@ -280,6 +281,15 @@ fn what_is_not_proved_has_its_line(rt: HostRuntime) -> Result<(), Fail> {
     let found = [0xAB; 32];
     let line = "error root abababababababababababababababababababababababababababababababab\n";
     prints(&rt, Fault::WrongRoot { found }, 8, line)
+}
+
+#[test]
+fn a_stale_target_has_its_line(rt: HostRuntime) -> Result<(), Fail> {
+    let fault = Fault::StaleUpdate {
+        start: Location::ZERO,
+        end: Location::ZERO.plus(6),
+    };
+    prints(&rt, fault, 8, "error update 0 6\n")
 }
 
 #[test]

@@ -4,7 +4,7 @@ use Rattle.ledger_log.specs.View.{LogView}
 use Rattle.ledger_log.specs.declared.any.AnyOp.{AnyOp}
 use Rattle.ledger_program.specs.Run.{LocalFails, SpansLog}
 use Rattle.ledger_program.specs.Served.{served}
-use Rattle.ledger_program.proofs.Links.{whole_log, serves_whole, reports_job, fails_job}
+use Rattle.ledger_program.proofs.Links.{whole_log, foretold, serves_whole, reports_job, fails_job}
 use Rattle.ledger_settling.specs.Reports.{IsWhole}
 use Rattle.sync_client.specs.Owing.{OwesNothing}
 use Rattle.sync_net.specs.Core.{data_of}
@@ -21,7 +21,7 @@ returns-in-Ok-clause-reports g c =
     let spans : SpansLog target (whole_log ops) = subst (λ (l : LogView AnyOp). SpansLog target l) e c.target_of-target.ensures.spans in
     let told = subst (λ (l : LogView AnyOp). OwesNothing (data_of any_spelling any_floor l) (service_of link.lost (service_told any_spelling any_floor link))) e c.link_to-link.ensures.serves in
     let h = serves_whole ops target c.in_ok-ops.ensures.sound c.target_of-target.ensures.most spans in
-    let own = c.in-Ok.ensures.serving (data_of any_spelling any_floor (whole_log ops)) h told in
+    let own = c.in-Ok.ensures.serving (data_of any_spelling any_floor (whole_log ops)) target h told (foretold ops target) in
     reports_job c.args.job.now ops target c.as_slice-2.result.now spans (c.in_ok-ops.ensures.list ∙ ap served c.as_slice.ensures) c.as_slice-2.ensures c.in-Ok.report c.in-Ok.ensures.report own
 
 pub returns-clause-fails : goal.returns-clause-fails
@@ -33,7 +33,7 @@ returns-clause-fails g c =
     let spans : SpansLog target (whole_log ops) = subst (λ (l : LogView AnyOp). SpansLog target l) e c.target_of-target.ensures.spans in
     let told = subst (λ (l : LogView AnyOp). OwesNothing (data_of any_spelling any_floor l) (service_of link.lost (service_told any_spelling any_floor link))) e c.link_to-link.ensures.serves in
     let h = serves_whole ops target c.in_ok-ops.ensures.sound c.target_of-target.ensures.most spans in
-    let own = c.in-Err.ensures.serving (data_of any_spelling any_floor (whole_log ops)) h told in
+    let own = c.in-Err.ensures.serving (data_of any_spelling any_floor (whole_log ops)) target h told (foretold ops target) in
     let whole : IsWhole target.start ops = subst (λ n. IsWhole n ops) (sym spans.start) c.in_ok-log.ensures.whole in
     let steady = c.in-Err.ensures.steady_on c.link_to-link.ensures.steady in
     subst (LocalFails c.args.job.now) (sym c.run_fault.ensures)
