@@ -1,3 +1,4 @@
 pub mod Answering
 pub mod Waiting
 pub mod Fetched
+pub mod Single

@@ -1,5 +1,5 @@
 -- One request: what each frame does, and how the waiting for its answer ends.
-use Rattle.std.specs.Prelude.{◌≡◌, ◌⊎◌, ℕ, ◌+◌, Bool, true, false, List, [], ◌∷◌, Option, Some, None, Result, Ok, Err, nat_lt, ◌==◌, if◌then◌else◌}
+use Rattle.std.specs.Prelude.{◌≡◌, ◌≤◌, ◌⊎◌, ℕ, ◌+◌, Bool, true, false, List, [], ◌∷◌, ◌++◌, length, Option, Some, None, Result, Ok, Err, nat_lt, ◌==◌, if◌then◌else◌}
 use Rattle.ledger_codec.specs.declared.fault.CodecError.{CodecError}
 use Rattle.ledger_codec.specs.declared.framing.FrameError.{FrameError}
 use Rattle.ledger_codec.specs.Parsing.{Parsed}
@@ -52,3 +52,11 @@ pub record Exchange {Op : Type 0} (read : List ℕ → Parsed Op) (p : Pending) 
   pub led : Leads 10485760 bytes bodies rest
   pub passed : Strays read p 0 bodies strays
   pub ends : RepliesSo read p strays rest ended reply
+
+-- What was given over held bytes was read while the exchange waited: it is nothing, or else its last piece, which no buffer exceeds, came over bytes over which the exchange waits.
+abbrev pub IsRead : {Op : Type 0} → (List ℕ → Parsed Op) → Pending → List ℕ → List ℕ → Type 0
+IsRead read p held given = (given ≡ []) ⊎ ((first : List ℕ) × (piece : List ℕ) × (given ≡ first ++ piece) × (length piece ≤ 4096) × Exchange read p (held ++ first) false Pends)
+
+-- over the same bytes, whose end was given or wasn't, the waiting ends in one way
+abbrev pub OneWay : {Op : Type 0} → (List ℕ → Parsed Op) → Type 0
+OneWay {Op} read = (p : Pending) (bytes : List ℕ) (ended : Bool) (one other : Reply Op) → Exchange read p bytes ended one → Exchange read p bytes ended other → one ≡ other

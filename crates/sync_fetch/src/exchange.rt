@@ -1,5 +1,5 @@
 //! One request over a link, and its answer.
-ghost use Rattle.std.specs.Prelude.{◌≡◌, ◌<◌, ◌∷◌, [], length, IsTrue, false};
+ghost use Rattle.std.specs.Prelude.{◌≡◌, ◌<◌, ◌≤◌, ◌∷◌, [], length, IsTrue, false};
 ghost use Rattle.sync_client.specs.Counts.{CountKept, NeverNetwork};
 ghost use Rattle.sync_net.specs.declared.ask.Pending.{Pending as PendingValue};
 ghost use Rattle.sync_fetch.specs.Told.{HeldAnswer, NextAnswer, Awaits, Sends};
@@ -57,6 +57,7 @@ fn next_answer<Op: Spell, L: Link>(
     buffer: &mut [u8],
 ) -> Result<Answer<Op>, SyncFault>
     requires room { 0 < length buffer.old }
+    requires most { length buffer.old ≤ 4096 }
     requires live { machine.old.closed ≡ false }
     ensures exact { IsTrue L.exact → CountKept result (L.faults link.old) (L.faults link.new) }
     ensures steady { L.steady link.old → L.steady link.new × NeverNetwork result (L.faults link.old) (L.faults link.new) }

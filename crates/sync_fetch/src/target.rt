@@ -1,6 +1,7 @@
 //! Fetching what there is to sync to.
 ghost use Rattle.std.specs.Prelude.{◌≡◌, [], IsTrue};
 ghost use Rattle.sync_client.specs.Counts.{CountKept, NeverNetwork};
+ghost use Rattle.sync_fetch.specs.Exchange.{OneWay};
 ghost use Rattle.sync_fetch.specs.Told.{TargetFetched, CompactTargetFetched};
 
 use crate::exchange::{await_reply, send_request};
@@ -17,6 +18,7 @@ pub fn fetch_target<Op: Spell, L: Link>(
 ) -> Result<Target, SyncFault>
     requires { machine.old.pending ≡ [] }
     ensures fetched { TargetFetched result Op.reading Op.written machine.old machine.new (L.wire link.old) (L.wire link.new) (L.faults link.old) (L.faults link.new) }
+    ensures one_way { OneWay Op.reading }
     ensures exact { IsTrue L.exact → CountKept result (L.faults link.old) (L.faults link.new) }
     ensures steady { L.steady link.old → L.steady link.new × NeverNetwork result (L.faults link.old) (L.faults link.new) }
 {
@@ -42,6 +44,7 @@ pub fn fetch_compact_target<Op: Spell, L: Link>(
 ) -> Result<CompactTarget, SyncFault>
     requires { machine.old.pending ≡ [] }
     ensures fetched { CompactTargetFetched result Op.reading Op.written machine.old machine.new (L.wire link.old) (L.wire link.new) (L.faults link.old) (L.faults link.new) }
+    ensures one_way { OneWay Op.reading }
     ensures exact { IsTrue L.exact → CountKept result (L.faults link.old) (L.faults link.new) }
     ensures steady { L.steady link.old → L.steady link.new × NeverNetwork result (L.faults link.old) (L.faults link.new) }
 {

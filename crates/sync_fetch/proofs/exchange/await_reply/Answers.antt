@@ -7,6 +7,7 @@ pub loop-message-init : goal.loop-message-init
 loop-message-init g c =
     record {
       room = omega arith;
+      most = omega arith;
       live = c.requires.live;
       strays = omega arith;
       exact = λ e. refl;
@@ -35,6 +36,7 @@ loop-message-preserved g c =
     let below : c.loop-message.strays < 1024 = c.if-strays-ge-MAX_STRAYS.false in
     record {
       room = omega (arith, i.room, c.next_answer.auto.buffer);
+      most = omega (arith, i.most, c.next_answer.auto.buffer);
       live = ap (λ (v : MachineView). v.closed) a.3.7 ∙ a.3.3;
       strays = omega (arith, below);
       exact = λ e. c.in-Ok-Stray.ensures.exact e ∙ i.exact e;

@@ -7,6 +7,7 @@ abbrev pub invariant-loop-message : goal.invariant-loop-message
 invariant-loop-message g l =
     record {
       room : 0 < length l.buffer;
+      most : length l.buffer ≤ 4096;
       live : l.machine.closed ≡ false;
       strays : l.strays ≤ 1024;
       exact : IsTrue g.L.Link.exact → g.L.Link.faults l.link ≡ g.L.Link.faults l.fn.link;

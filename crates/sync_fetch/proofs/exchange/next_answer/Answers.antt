@@ -2,13 +2,13 @@ use Rattle.std.proofs.Common.{◌≡◌, ◌∙◌, ◌<◌, ◌+◌, ◌++◌, 
 use Rattle.ledger_codec.specs.Frames.{Short, front}
 use Rattle.sync_net.specs.View.{MachineView}
 use Rattle.sync_client.proofs.Shortness.{short_held}
-use Rattle.sync_fetch.proofs.Waiting.{held_stops, recv_stops, recv_fed, recv_told}
+use Rattle.sync_fetch.proofs.Waiting.{held_stops, recv_stops, recv_fed, recv_told, recv_drawn}
 use Rattle.sync_fetch.proofs.exchange.next_answer.Goals as goal
 
 pub returns-in-Err-clause-answers : goal.returns-in-Err-clause-answers
 returns-in-Err-clause-answers g c =
     let i = c.loop-answer.invariant in
-    held_stops g.Op.Spell.reading c.args.machine.now c.loop-answer.machine c.answer_held.new.machine i.given.0 (g.L.Link.wire c.args.link.now) (g.L.Link.wire c.loop-answer.link) (g.L.Link.faults c.args.link.now) (g.L.Link.faults c.loop-answer.link) c.in-Err.fault c.in-Err.ensures i.given.1 c.requires.live i.given.2
+    held_stops g.Op.Spell.reading c.args.machine.now c.loop-answer.machine c.answer_held.new.machine i.given.0 (g.L.Link.wire c.args.link.now) (g.L.Link.wire c.loop-answer.link) (g.L.Link.faults c.args.link.now) (g.L.Link.faults c.loop-answer.link) c.in-Err.fault c.in-Err.ensures i.given.1 c.requires.live i.given.2 i.given.3 i.later
 
 pub loop-answer-smaller : goal.loop-answer-smaller
 loop-answer-smaller g c =
@@ -27,10 +27,11 @@ loop-answer-preserved g c =
     let h = c.in-Ok.ensures.receives in
     record {
       room = omega (arith, i.room, c.receive.auto.buffer);
+      most = omega (arith, i.most, c.receive.auto.buffer);
       later = let a = i.later in let b = h.4 in omega arith;
       exact = λ e. c.in-Ok.ensures.exact e ∙ i.exact e;
       steady = λ e. (let r = c.in-Ok.ensures.steady (i.steady e).0 in (r.0, r.1 ∙ (i.steady e).1));
-      given = (i.given.0 ++ h.0, recv_fed c.args.machine.now c.answer_held.new.machine c.receive.new.machine i.given.0 h.0 h.2 (t.2 ∙ i.given.1), recv_told (g.L.Link.wire c.args.link.now) (g.L.Link.wire c.loop-answer.link) (g.L.Link.wire c.receive.new.link) i.given.0 h.0 i.given.2 h.3);
+      given = (i.given.0 ++ h.0, recv_fed c.args.machine.now c.answer_held.new.machine c.receive.new.machine i.given.0 h.0 h.2 (t.2 ∙ i.given.1), recv_told (g.L.Link.wire c.args.link.now) (g.L.Link.wire c.loop-answer.link) (g.L.Link.wire c.receive.new.link) i.given.0 h.0 i.given.2 h.3, recv_drawn c.args.machine.now c.loop-answer.machine i.given.0 h.0 i.given.1 t.1 h.5);
     }
 
 pub returns-in-Err-receive-clause-answers : goal.returns-in-Err-receive-clause-answers
@@ -39,4 +40,4 @@ returns-in-Err-receive-clause-answers g c =
     let t = rw c.in-Ok-None.field-0-is at c.in-Ok-None.ensures in
     let short : front 10485760 c.answer_held.new.machine.held ≡ Short = ap (λ (v : MachineView). front 10485760 v.held) t.2 ∙ t.1 in
     recv_stops g.Op.Spell.reading c.args.machine.now c.answer_held.new.machine c.receive.new.machine i.given.0 (g.L.Link.wire c.args.link.now) (g.L.Link.wire c.loop-answer.link) (g.L.Link.wire c.receive.new.link) (g.L.Link.faults c.args.link.now) (g.L.Link.faults c.loop-answer.link) (g.L.Link.faults c.receive.new.link) c.in-Err-receive.fault
-    c.in-Err-receive.ensures.receives short (t.2 ∙ i.given.1) i.given.2 i.later
+    c.in-Err-receive.ensures.receives short (t.2 ∙ i.given.1) i.given.2 i.given.3 i.later

@@ -1,4 +1,4 @@
-use Rattle.std.proofs.Common.{◌∙◌, ap, ℕ, List, Err, Result}
+use Rattle.std.proofs.Common.{◌∙◌, ap, ℕ, List, Err, Result, inr}
 use Rattle.std.specs.Prelude.{option_map}
 use Rattle.sync_net.specs.Wire.{with_sent}
 use Rattle.sync_net.specs.declared.link.LinkError.{LinkError}
@@ -14,3 +14,6 @@ returns-in-Ok-send-clause-sends g c =
 pub returns-in-Err-Failed-clause-sends : goal.returns-in-Err-Failed-clause-sends
 returns-in-Err-Failed-clause-sends g c =
     (c.in-Ok.submitted, c.in-Ok.is, c.in-Err-Failed.ensures.wire_now, c.in-Err-Failed.ensures.cause.failed (ap (λ (x : LinkError). failure x) c.in-Err-Failed.field-0-is))
+
+pub returns-clause-sends : goal.returns-clause-sends
+returns-clause-sends g c = (c.in-Err-OutOfMemory-send.ensures.wire_now, c.in-Err-OutOfMemory-send.ensures.cause.later, inr (c.in-Ok.submitted, c.in-Ok.is))

@@ -2,7 +2,8 @@ use Rattle.std.proofs.Common.{refl, subst}
 use Rattle.sync_net.specs.declared.ask.Ask.TheVariants as asks
 use Rattle.sync_net.specs.declared.message.Message.{Message}
 use Rattle.sync_fetch.specs.Told.{FetchCame}
-use Rattle.sync_fetch.proofs.Fetched.{fetch_stops, fetch_came, is_compact_target}
+use Rattle.sync_fetch.proofs.Fetched.{send_stops, fetch_stops, fetch_came, is_compact_target}
+use Rattle.sync_fetch.proofs.Single.{one_way}
 use Rattle.sync_fetch.proofs.target.fetch_compact_target.Goals as goal
 
 pub returns-in-Err-await_reply-clause-fetched : goal.returns-in-Err-await_reply-clause-fetched
@@ -19,3 +20,16 @@ pub returns-clause-fetched : goal.returns-clause-fetched
 returns-clause-fetched g c =
     let f = fetch_came g.Op.Spell.reading g.Op.Spell.written asks.CompactTarget c.args.machine.now c.submit_compact_target-made.new.self c.await_reply.new.machine c.submit_compact_target-made.result c.in-Ok.field-0 (g.L.Link.wire c.args.link.now) (g.L.Link.wire c.send_request.new.link) (g.L.Link.wire c.await_reply.new.link) (g.L.Link.faults c.args.link.now) (g.L.Link.faults c.send_request.new.link) (g.L.Link.faults c.await_reply.new.link) c.in-Ok-await_reply.message c.requires c.submit_compact_target-made.ensures c.in-Ok.ensures.sends c.in-Ok-await_reply.ensures.awaits in
     (c.in-GetCompactTargetResponse.answer, refl, subst (λ (x : Message g.row.Op.Denot). FetchCame g.Op.Spell.reading g.Op.Spell.written asks.CompactTarget x c.args.machine.now c.await_reply.new.machine (g.L.Link.wire c.args.link.now) (g.L.Link.wire c.await_reply.new.link)) c.in-GetCompactTargetResponse.is f)
+
+pub returns-in-Err-clause-fetched : goal.returns-in-Err-clause-fetched
+returns-in-Err-clause-fetched g c =
+    send_stops g.Op.Spell.reading g.Op.Spell.written asks.CompactTarget c.args.machine.now c.submit_compact_target-made.new.self c.submit_compact_target-made.result (g.L.Link.wire c.args.link.now) (g.L.Link.wire c.send_request.new.link) (g.L.Link.faults c.args.link.now) (g.L.Link.faults c.send_request.new.link) c.in-Err.fault c.requires c.submit_compact_target-made.ensures c.in-Err.ensures.sends
+
+pub returns-in-Err-clause-one_way : goal.returns-in-Err-clause-one_way
+returns-in-Err-clause-one_way g c = one_way g.Op.Spell.reading
+
+pub returns-in-Err-await_reply-clause-one_way : goal.returns-in-Err-await_reply-clause-one_way
+returns-in-Err-await_reply-clause-one_way g c = one_way g.Op.Spell.reading
+
+pub returns-clause-one_way : goal.returns-clause-one_way
+returns-clause-one_way g c = one_way g.Op.Spell.reading
