@@ -27,3 +27,4 @@ pub mod ServingTakes
 pub mod ServingTurns
 pub mod ServingEnds
 pub mod SentOperations
+pub mod Keyless

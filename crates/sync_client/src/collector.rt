@@ -209,7 +209,9 @@ impl<Op: Leaf + Copy> Collector<Op> {
     pub fn finish(self) -> Result<Part<Op>, CollectFault>
         requires { is_complete self ≡ true }
         ensures finishes { Finishes result sha256 Op.spelling self }
-        ensures whole { IfOk result (λ part. (length part.ops ≡ self.plan.target.end - self.plan.target.start) × (length part.pinned ≡ count_ones self.plan.target.start)) }
+        ensures whole { IfOk result (λ part.
+            (length part.ops ≡ self.plan.target.end - self.plan.target.start)
+            × (length part.pinned ≡ count_ones self.plan.target.start)) }
         ensures one { IfOk result (λ part. (ops : Items Op) → Assembles self.plan.target.start self.kept ops → ops ≡ part.ops) }
     {
         match self.finish_hashed() {
@@ -222,7 +224,9 @@ impl<Op: Leaf + Copy> Collector<Op> {
     pub fn finish_hashed(self) -> Result<HashedPart<Op>, CollectFault>
         requires { is_complete self ≡ true }
         ensures finishes { Finishes (part_of result) sha256 Op.spelling self }
-        ensures whole { IfOk result (λ h. (length h.part.ops ≡ self.plan.target.end - self.plan.target.start) × (length h.part.pinned ≡ count_ones self.plan.target.start)) }
+        ensures whole { IfOk result (λ h.
+            (length h.part.ops ≡ self.plan.target.end - self.plan.target.start)
+            × (length h.part.pinned ≡ count_ones self.plan.target.start)) }
         ensures one { IfOk result (λ h. (ops : Items Op) → Assembles self.plan.target.start self.kept ops → ops ≡ h.part.ops) }
         ensures leaves { IfOk result (IsHashed Op.spelling) }
     {
@@ -289,7 +293,9 @@ fn keep<Op: Copy>(
     ops: List<Op>,
 ) -> Result<(), OutOfMemory>
     requires { asked.now.start + length ops ≤ asked.now.end }
-    ensures ok { OnOk result ((kept.new.items ≡ kept.old.items ++ record { at = asked.now.start; ops = ops } ∷ []) × (rests.new.items ≡ rests.old.items ++ rest_of asked.now (length ops))) }
+    ensures ok { OnOk result
+        ((kept.new.items ≡ kept.old.items ++ record { at = asked.now.start; ops = ops } ∷ [])
+        × (rests.new.items ≡ rests.old.items ++ rest_of asked.now (length ops))) }
     ensures err { OnErr result ((kept.new.items ≡ kept.old.items) × (rests.new.items ≡ rests.old.items)) }
 {
     let end = asked.end;

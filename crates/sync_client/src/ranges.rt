@@ -23,7 +23,9 @@ pub(crate) fn move_first(
     target: &Target,
 ) -> Result<Range<Location>, OutOfMemory>
     requires { 0 < length rests.old.items }
-    ensures ok { IfOk result (λ r. (rests.old.items ≡ r ∷ rests.new.items) × (pending.new.items ≡ pending.old.items ++ record { range = r; target = target.now } ∷ [])) }
+    ensures ok { IfOk result (λ r.
+        (rests.old.items ≡ r ∷ rests.new.items)
+        × (pending.new.items ≡ pending.old.items ++ record { range = r; target = target.now } ∷ [])) }
     ensures err { OnErr result ((rests.new.items ≡ rests.old.items) × (pending.new.items ≡ pending.old.items)) }
 {
     let start = rests[0].start;

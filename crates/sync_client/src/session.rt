@@ -49,14 +49,18 @@ fn fill<Op: Leaf + Spell + Copy, L: Link>(
     ensures steady { L.steady link.old → L.steady link.new × NeverNetwork result (L.faults link.old) (L.faults link.new) }
     ensures filled { (o : Origin Op) (b : Beside)
         → o.rules ≡ rules_for Op.reading Op.written Op.spelling
-        → Came o (seen machine.old collector.old b) machine.old.held machine.old.closed (L.wire link.old) (L.faults link.old)
-        → Filled result o (seen machine.new collector.new b) machine.new b.updates (L.wire link.new) (L.faults link.new) }
+        → Came o (seen machine.old collector.old b)
+        machine.old.held machine.old.closed (L.wire link.old) (L.faults link.old)
+        → Filled result o (seen machine.new collector.new b)
+        machine.new b.updates (L.wire link.new) (L.faults link.new) }
     ensures nothing { OnOk result ((b : Beside) → ask_next (seen machine.new collector.new b) ≡ Nothing) }
     ensures serving { (held : LogData) (first : Target) (left : List (Option Target)) (b : Beside)
         → AreSent Op.reading Op.written Op.spelling Op.Spell.sound
         → (h : Serves Op.written Op.Spell.sound held first)
-        → IsServed Op.written held h.log left (seen machine.old collector.old b) machine.old.held machine.old.closed (L.service link.old)
-        → Serving Op.written held h.log left (seen machine.new collector.new b) result machine.new.held machine.new.closed (L.service link.new) }
+        → IsServed Op.written held h.log left (seen machine.old collector.old b)
+        machine.old.held machine.old.closed (L.service link.old)
+        → Serving Op.written held h.log left (seen machine.new collector.new b) result
+        machine.new.held machine.new.closed (L.service link.new) }
 {
     loop {
         let frame = match ask(machine, collector) {
@@ -96,18 +100,29 @@ fn handle<Op: Leaf + Spell + Copy, L: Link, Ts: Targets>(
     ensures steady { L.steady link.old → L.steady link.new × NeverNetwork result (L.faults link.old) (L.faults link.new) }
     ensures handled { (o : Origin Op)
         → o.rules ≡ rules_for Op.reading Op.written Op.spelling
-        → Came o (seen machine.old collector.old (beside strays.old (Ts.answers updates.old))) machine.old.held machine.old.closed (L.wire link.old) (L.faults link.old)
-        → ask_next (seen machine.old collector.old (beside strays.old (Ts.answers updates.old))) ≡ Nothing
-        → is_whole (seen machine.old collector.old (beside strays.old (Ts.answers updates.old))) ≡ false
-        → Handled result o (seen machine.new collector.new (beside strays.new (Ts.answers updates.new))) machine.new (Ts.answers updates.new) (L.wire link.new) (L.faults link.new) }
+        → Came o
+        (seen machine.old collector.old (beside strays.old (Ts.answers updates.old)))
+        machine.old.held machine.old.closed (L.wire link.old) (L.faults link.old)
+        → ask_next
+        (seen machine.old collector.old (beside strays.old (Ts.answers updates.old))) ≡ Nothing
+        → is_whole
+        (seen machine.old collector.old (beside strays.old (Ts.answers updates.old))) ≡ false
+        → Handled result o (seen machine.new collector.new (beside strays.new (Ts.answers updates.new)))
+        machine.new (Ts.answers updates.new) (L.wire link.new) (L.faults link.new) }
     ensures serving { (held : LogData) (first : Target) (left : List (Option Target))
         → AreSent Op.reading Op.written Op.spelling Op.Spell.sound
         → (h : Serves Op.written Op.Spell.sound held first)
         → length left ≤ length (Ts.answers updates.new)
-        → IsServed Op.written held h.log left (seen machine.old collector.old (beside strays.old (Ts.answers updates.old))) machine.old.held machine.old.closed (L.service link.old)
-        → ask_next (seen machine.old collector.old (beside strays.old (Ts.answers updates.old))) ≡ Nothing
-        → is_whole (seen machine.old collector.old (beside strays.old (Ts.answers updates.old))) ≡ false
-        → Serving Op.written held h.log left (seen machine.new collector.new (beside strays.new (Ts.answers updates.new))) result machine.new.held machine.new.closed (L.service link.new) }
+        → IsServed Op.written held h.log left
+        (seen machine.old collector.old (beside strays.old (Ts.answers updates.old)))
+        machine.old.held machine.old.closed (L.service link.old)
+        → ask_next
+        (seen machine.old collector.old (beside strays.old (Ts.answers updates.old))) ≡ Nothing
+        → is_whole
+        (seen machine.old collector.old (beside strays.old (Ts.answers updates.old))) ≡ false
+        → Serving Op.written held h.log left
+        (seen machine.new collector.new (beside strays.new (Ts.answers updates.new))) result
+        machine.new.held machine.new.closed (L.service link.new) }
 {
     loop {
         match take_next(machine, collector, strays, updates) {
@@ -138,14 +153,18 @@ fn collect<Op: Leaf + Spell + Copy, L: Link, Ts: Targets>(
     ensures steady { L.steady link.old → L.steady link.new × NeverNetwork result (L.faults link.old) (L.faults link.new) }
     ensures collects { (o : Origin Op)
         → o.rules ≡ rules_for Op.reading Op.written Op.spelling
-        → Came o (seen machine.old collector.old (beside 0 (Ts.answers updates.old))) machine.old.held machine.old.closed (L.wire link.old) (L.faults link.old)
-        → Collects result o machine.new collector.new (Ts.answers updates.new) (L.wire link.new) (L.faults link.new) }
+        → Came o (seen machine.old collector.old (beside 0 (Ts.answers updates.old)))
+        machine.old.held machine.old.closed (L.wire link.old) (L.faults link.old)
+        → Collects result o
+        machine.new collector.new (Ts.answers updates.new) (L.wire link.new) (L.faults link.new) }
     ensures serving { (held : LogData) (first : Target) (left : List (Option Target))
         → AreSent Op.reading Op.written Op.spelling Op.Spell.sound
         → (h : Serves Op.written Op.Spell.sound held first)
         → length left ≤ length (Ts.answers updates.new)
-        → IsServed Op.written held h.log left (seen machine.old collector.old (beside 0 (Ts.answers updates.old))) machine.old.held machine.old.closed (L.service link.old)
-        → ServesOn Op.written held h.log left result machine.new collector.new (Ts.answers updates.new) (L.service link.new) }
+        → IsServed Op.written held h.log left (seen machine.old collector.old (beside 0 (Ts.answers updates.old)))
+        machine.old.held machine.old.closed (L.service link.old)
+        → ServesOn Op.written held h.log left result
+        machine.new collector.new (Ts.answers updates.new) (L.service link.new) }
 {
     let mut buffer = [0; BUFFER_SIZE];
     let mut strays = 0;
@@ -184,7 +203,8 @@ pub fn sync_full<Op: Leaf + Spell + Copy, L: Link, Ts: Targets>(
 ) -> Result<(Target, Part<Op>), SyncFault>
     requires { machine.old.pending ≡ [] }
     ensures ended { Ended result
-        (origin_of Op.reading Op.written Op.spelling target.now (Ts.answers updates.old) limits.now machine.old (L.wire link.old) (L.faults link.old))
+        (origin_of Op.reading Op.written Op.spelling target.now (Ts.answers updates.old)
+        limits.now machine.old (L.wire link.old) (L.faults link.old))
         machine.new (Ts.answers updates.new) (L.wire link.new) (L.faults link.new) }
     ensures took { TakesUpdates result target.now (Ts.answers updates.old) (Ts.answers updates.new) }
     ensures exact { IsTrue L.exact → CountKept result (L.faults link.old) (L.faults link.new) }
@@ -218,7 +238,8 @@ pub fn sync_hashed<Op: Leaf + Spell + Copy, L: Link, Ts: Targets>(
 ) -> Result<(Target, HashedPart<Op>), SyncFault>
     requires { machine.old.pending ≡ [] }
     ensures ended { Ended (synced_part result)
-        (origin_of Op.reading Op.written Op.spelling target.now (Ts.answers updates.old) limits.now machine.old (L.wire link.old) (L.faults link.old))
+        (origin_of Op.reading Op.written Op.spelling target.now (Ts.answers updates.old)
+        limits.now machine.old (L.wire link.old) (L.faults link.old))
         machine.new (Ts.answers updates.new) (L.wire link.new) (L.faults link.new) }
     ensures took { TakesUpdates result target.now (Ts.answers updates.old) (Ts.answers updates.new) }
     ensures exact { IsTrue L.exact → CountKept result (L.faults link.old) (L.faults link.new) }

@@ -133,7 +133,8 @@ fn take_reply<Op: Leaf + Spell + Copy, Ts: Targets>(
     updates: &mut Ts,
 ) -> Result<(), SyncFault>
     requires { IsOutstanding asked (ranges_of collector.old.pending) }
-    ensures replies { TakesReply result (judged_by sha256 Op.spelling) asked number response collector.old collector.new (Ts.answers updates.old) (Ts.answers updates.new) }
+    ensures replies { TakesReply result (judged_by sha256 Op.spelling) asked number response
+        collector.old collector.new (Ts.answers updates.old) (Ts.answers updates.new) }
     ensures tiles { Tiles collector.new }
 {
     match collector.accept(asked, number, response) {
@@ -155,7 +156,9 @@ pub(crate) fn take_next<Op: Leaf + Spell + Copy, Ts: Targets>(
 ) -> Result<bool, SyncFault>
     requires tiles { Tiles collector.old }
     requires paired { Paired machine.old collector.old }
-    ensures takes { TakesNext result (rules_for Op.reading Op.written Op.spelling) machine.old machine.new collector.old collector.new (beside strays.old (Ts.answers updates.old)) (beside strays.new (Ts.answers updates.new)) }
+    ensures takes { TakesNext result (rules_for Op.reading Op.written Op.spelling)
+        machine.old machine.new collector.old collector.new
+        (beside strays.old (Ts.answers updates.old)) (beside strays.new (Ts.answers updates.new)) }
     ensures tiles { Tiles collector.new }
 {
     match machine.next_answer() {

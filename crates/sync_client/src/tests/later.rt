@@ -1,5 +1,10 @@
 //! Later targets: which are taken, by which an answer is judged, and what is asked from then on.
-ghost use Rattle.std.specs.Prelude.{◌≡◌, ◌≤◌, ◌-◌, length, true, None, Option, List};
+ghost use Rattle.std.specs.Prelude.{◌≡◌, ◌≤◌, ◌-◌, length, true, None, Option, List, IfSome};
+ghost use Rattle.ledger_log.specs.Keyless.{keyless_spelling, IsSoundKeyless};
+ghost use Rattle.ledger_log.specs.View.{log_range};
+ghost use Rattle.sync_net.specs.Core.{LogData};
+ghost use Rattle.sync_client.specs.Owing.{OwesNothing};
+ghost use Rattle.sync_client.specs.Serving.{Serves};
 ghost use Rattle.sync_net.specs.Wire.{Wire};
 ghost use Rattle.sync_net.specs.Service.{Service};
 
@@ -7,7 +12,9 @@ use super::vectors::{
     ASKED_ALL, ASKED_ONE, ASKED_THREE, GIVEN_ALL, GIVEN_ONE, GIVEN_THREE, ROOT, ROOT_NINE,
     ROOT_SIX, ROOT_TWO,
 };
-use crate::{CollectFault, Collector, Limits, ListTargets, SyncFault, Targets, sync_full};
+use crate::{
+    CollectFault, Collector, Limits, ListTargets, NoTargets, SyncFault, Targets, sync_full,
+};
 use ledger_codec::Digest;
 use ledger_log::{KeylessOp, Target};
 use ledger_merkle::{Location, Part};
@@ -164,6 +171,38 @@ fn a_later_target_is_asked_for_up_to_its_end(rt: HostRuntime) {
     let synced = Some((Told::Synced(ROOT_NINE, 9, 9), true, false));
     assert!(rt; risen(alloc, 1, &GIVEN_ONE, &ASKED_ONE) == synced);
     assert!(rt; risen(alloc, 3, &GIVEN_THREE, &ASKED_THREE) == synced);
+}
+
+/// The part that a link gives which serves the target's log and owes nothing, where no later target is named.
+fn fetched<L: Link>(
+    alloc: Global,
+    target: &Target,
+    limits: &Limits,
+    link: &mut L,
+) -> Option<Part<KeylessOp>>
+    ensures { (held : LogData) (h : Serves keyless_spelling IsSoundKeyless held target.now)
+        → OwesNothing held (L.service link.old)
+        → IfSome result (λ part. part.ops ≡ log_range h.log target.now.start (target.now.end - target.now.start)) }
+{
+    let mut machine: Machine<KeylessOp> = Machine::new(alloc, Generator::new());
+    match sync_full(alloc, target, &mut NoTargets, limits, &mut machine, link) {
+        Ok(synced) => Some(synced.1),
+        Err(_) => None,
+    }
+}
+
+#[test]
+fn an_empty_tape_has_no_part(rt: HostRuntime) {
+    let alloc = rt.alloc();
+    let mut tape = Tape {
+        bytes: Vec::new(alloc),
+        place: 0,
+        sent: Vec::new(alloc),
+    };
+    let part = target(ROOT_SIX, 0, 6)
+        .zip(Limits::new(2, 1))
+        .and_then(|(six, limits)| fetched(alloc, &six, &limits, &mut tape));
+    assert!(rt; part.is_none());
 }
 
 /// So many at a time, with the first target named again.
