@@ -40,7 +40,7 @@ pub(crate) fn append_slots<A: AccountValue>(
     ensures accounts { OnOk result (IsReplay A.eq A.values accounts.new log.new.ops) }
     ensures fails { IfErr result (AppendFails A.eq A.rules A.values log.old block touched.now) }
 {
-    let order = touched_keys(alloc, touched)?;
+    let order = touched_keys(alloc, slots.hashing, touched)?;
     let mut ops = write_slots(alloc, accounts, order.as_slice(), slots)?;
     let floor = log.floor();
     ops.push(AnyOp::CommitFloor(None, floor))?;

@@ -29,7 +29,7 @@ use ledger_log::{AnyFamily, Key, Log};
 use ledger_managed::AccountValue;
 use ledger_merkle::Sha256Hasher;
 use ledger_strategy::Strategy;
-use ledger_transfers::{Account, Change, Selection, Transfer};
+use ledger_transfers::{Account, Change, Seeded, Selection, Transfer};
 use std::alloc::Global;
 use std::random::RandomSource;
 use std::thread::Threads;
@@ -144,7 +144,7 @@ fn choose_rounds<T: Transfer<Key = Key, Account = A>, A: AccountValue>(
 }
 
 /// The slots of what a selection took.
-fn selected_slots<R: Threads + Sync, A: AccountValue, S: Strategy>(
+fn selected_slots<R: RandomSource + Threads + Sync, A: AccountValue, S: Strategy>(
     rt: &R,
     alloc: Global,
     selection: Selection<Key, A>,
@@ -154,9 +154,14 @@ fn selected_slots<R: Threads + Sync, A: AccountValue, S: Strategy>(
     requires { AreOpened A.eq accounts.now selection.0 selection.1 }
     ensures { IfOk result (λ s. (ts : _) → StandsFor bytes_eq A.eq A.rules selection.1 ts → AreSlotsOf A.eq A.rules (opening_of A.rules accounts.now) ts s.keys.keys s.slots.items) }
 {
-    let keys = key_set(alloc, selection.keys())?;
+    let hashing = Seeded::fresh(rt);
+    let keys = key_set(alloc, hashing, selection.keys())?;
     let slots = selection.settle(rt, alloc, strategy)?;
-    Ok(Slots { keys, slots })
+    Ok(Slots {
+        hashing,
+        keys,
+        slots,
+    })
 }
 
 /// Takes out the empty changes.

@@ -13,15 +13,16 @@ use ledger_codec::OutOfMemory;
 use ledger_log::{AnyOp, Key};
 use ledger_managed::AccountValue;
 use ledger_strategy::Strategy;
-use ledger_transfers::{Change, Plan, PlanFault, Slot, Transfer};
+use ledger_transfers::{Change, Plan, PlanFault, Seeded, Slot, Transfer};
 use std::alloc::Global;
 use std::random::RandomSource;
 use std::thread::Threads;
 
-/// One slot for each of its keys.
+/// One slot for each of its keys. The keys are a payer's, so they are hashed with a seed.
 #[derive(Drop)]
 pub(crate) struct Slots<A> {
-    pub keys: IndexSet<Key>,
+    pub hashing: Seeded,
+    pub keys: IndexSet<Key, Seeded>,
     pub slots: Vec<Slot<A>>,
 }
 
@@ -36,10 +37,14 @@ impl<A> Slots<A> {
 }
 
 /// The keys, each at its first place.
-pub(crate) fn key_set(alloc: Global, keys: &[Key]) -> Result<IndexSet<Key>, OutOfMemory>
+pub(crate) fn key_set(
+    alloc: Global,
+    hashing: Seeded,
+    keys: &[Key],
+) -> Result<IndexSet<Key, Seeded>, OutOfMemory>
     ensures { IfOk result (λ set. set.keys ≡ firsts bytes_eq keys.now) }
 {
-    let mut set = IndexSet::with_capacity(alloc, keys.len())?;
+    let mut set = IndexSet::with_capacity_and_hasher(alloc, keys.len(), hashing)?;
     for key in keys {
         set.insert(*key)?;
     }
@@ -49,11 +54,12 @@ pub(crate) fn key_set(alloc: Global, keys: &[Key]) -> Result<IndexSet<Key>, OutO
 /// The touched keys, in the order of their first touches.
 pub(crate) fn touched_keys<E: Copy>(
     alloc: Global,
+    hashing: Seeded,
     touched: &[(Key, Change<E>)],
-) -> Result<IndexSet<Key>, OutOfMemory>
+) -> Result<IndexSet<Key, Seeded>, OutOfMemory>
     ensures { IfOk result (λ set. set.keys ≡ firsts bytes_eq (map (λ t. t.0) touched.now)) }
 {
-    let mut set = IndexSet::new(alloc);
+    let mut set = IndexSet::with_hasher(alloc, hashing);
     for (key, _) in touched {
         set.insert(*key)?;
     }
@@ -110,8 +116,13 @@ pub(crate) fn body_slots<
     let plan = Plan::new(rt, alloc, batch, strategy)?;
     let reads = reads_of(alloc, accounts, plan.keys())?;
     let slots = plan.settle(rt, alloc, &reads, strategy)?;
-    let keys = key_set(alloc, plan.keys())?;
-    Ok(Slots { keys, slots })
+    let hashing = Seeded::fresh(rt);
+    let keys = key_set(alloc, hashing, plan.keys())?;
+    Ok(Slots {
+        hashing,
+        keys,
+        slots,
+    })
 }
 
 /// Writes one slot: an operation where the account changes, and the account.

@@ -3,7 +3,8 @@
 use std::hash::{BuildHasher, DefaultHasher, Hasher};
 use std::random::RandomSource;
 
-/// Hashes with a seed: each hash is std's over the seed and the key. A fresh seed keeps chosen keys from colliding.
+/// Hashes with a seed: each hash is std's over the seed and the key. A fresh seed keeps chosen keys from colliding;
+/// docs/TABLES.md says which tables there are.
 #[derive(Clone, Copy)]
 pub struct Seeded {
     initial: DefaultHasher,
@@ -14,6 +15,11 @@ impl Seeded {
         let mut initial = DefaultHasher::new();
         initial.write_u64(seed);
         Seeded { initial }
+    }
+
+    /// Hashes with a fresh seed, or with 0 where the source of random bytes gives none.
+    pub fn fresh(rt: &impl RandomSource) -> Self {
+        Seeded::new(fresh_seed(rt))
     }
 }
 
