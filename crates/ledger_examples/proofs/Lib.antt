@@ -1,3 +1,4 @@
 pub mod Batching
 pub mod Making
 pub mod Agreeing
+pub mod Runs

@@ -1,12 +1,13 @@
 //! Adding operations batch by batch: all of them or none.
 ghost use Rattle.std.specs.Prelude.{◌≡◌, ◌+◌, ◌<◌, ◌≤◌, ◌∷◌, None, MatchOption, IsOk, IsOkUnless, IfOk, OnOk, OnErr, length, map, take, drop, is_some};
-ghost use Rattle.ledger_log.specs.View.{last_floor};
+ghost use Rattle.ledger_log.specs.View.{log_size, log_floor, last_floor, floor_or_zero};
+ghost use Rattle.ledger_compact.specs.View.{with_ops, with_batch};
 ghost use Rattle.ledger_examples.specs.Batches.{batches_of, first_refusal, added_batches, with_batches};
 
 use crate::{BatchStore, ExampleFamily};
-use ledger_compact::admit;
-use ledger_log::{Family, LogFault};
-use ledger_merkle::Location;
+use ledger_compact::{CompactLog, admit};
+use ledger_log::{CompactFamily, Family, Log, LogFault};
+use ledger_merkle::{Hasher, Location};
 
 /// Adds operations that end with a commit, each run up to a commit as one batch; nothing where they don't end
 /// with one. All are tested first, so that a refusal is that of the first batch and changes nothing.
@@ -36,13 +37,7 @@ fn append_all<F: Family, L: BatchStore<F>>(log: &mut L, ops: &[F::Op]) -> Result
         Ok(()) => {}
         Err(fault) => return Err(fault),
     }
-    match grown::<F, L>(log, ops) {
-        Ok(grown) => {
-            *log = grown;
-            Ok(())
-        }
-        Err(fault) => Err(fault),
-    }
+    log.take_batches(ops)
 }
 
 /// Whether the last operation is a commit.
@@ -101,20 +96,70 @@ fn test_all<F: Family>(size: Location, floor: Location, ops: &[F::Op]) -> Result
     Ok(())
 }
 
-/// A copy of the log with the batches of these operations, which it takes. Refused for want of memory alone.
-fn grown<F: Family, L: BatchStore<F>>(log: &L, ops: &[F::Op]) -> Result<L, LogFault>
-    requires { first_refusal F.floor_of (L.size_of log.now) (L.last_floor_of log.now) (batches_of F.floor_of ops.now) ≡ None }
+/// Appends the batches of these operations, which the log takes, as one run.
+#[tactic(auto, using(crate::proofs::Runs::none_added))]
+pub(crate) fn extend_log<F: Family, H: Hasher>(
+    log: &mut Log<F, H>,
+    ops: &[F::Op],
+) -> Result<(), LogFault>
+    requires { first_refusal F.floor_of (log_size log.old) (log_floor F.floor_of log.old) (batches_of F.floor_of ops.now) ≡ None }
     ensures may { IsOkUnless result LogFault.OutOfMemory }
-    ensures ok { IfOk result (λ new. new ≡ with_batches L.appended log.now (batches_of F.floor_of ops.now)) }
+    ensures ok { OnOk result (log.new ≡ with_batches with_ops log.old (batches_of F.floor_of ops.now)) }
+    ensures err { OnErr result (log.new ≡ log.old) }
 {
-    let mut grown = match log.duplicate() {
+    if ops.len() == 0 {
+        return Ok(());
+    }
+    append_run(log, ops)
+}
+
+/// The same of some operations.
+fn append_run<F: Family, H: Hasher>(log: &mut Log<F, H>, ops: &[F::Op]) -> Result<(), LogFault>
+    requires some { 0 < length ops.now }
+    requires taken { first_refusal F.floor_of (log_size log.old) (log_floor F.floor_of log.old) (batches_of F.floor_of ops.now) ≡ None }
+    ensures may { IsOkUnless result LogFault.OutOfMemory }
+    ensures ok { OnOk result (log.new ≡ with_batches with_ops log.old (batches_of F.floor_of ops.now)) }
+    ensures err { OnErr result (log.new ≡ log.old) }
+{
+    log.append_batches(ops)
+}
+
+/// Appends the batches of these operations, which the log takes: to a copy, as that has no operations.
+pub(crate) fn extend_compact<F: CompactFamily, H: Hasher>(
+    log: &mut CompactLog<F, H>,
+    ops: &[F::Op],
+) -> Result<(), LogFault>
+    requires { first_refusal F.floor_of log.old.size (floor_or_zero (F.floor_of log.old.last)) (batches_of F.floor_of ops.now) ≡ None }
+    ensures may { IsOkUnless result LogFault.OutOfMemory }
+    ensures ok { OnOk result (log.new ≡ with_batches (with_batch H.digest F.Op.spelling) log.old (batches_of F.floor_of ops.now)) }
+    ensures err { OnErr result (log.new ≡ log.old) }
+{
+    match grown(log, ops) {
+        Ok(grown) => {
+            *log = grown;
+            Ok(())
+        }
+        Err(fault) => Err(fault),
+    }
+}
+
+/// A copy of the log with the batches of these operations, which it takes. Refused for want of memory alone.
+fn grown<F: CompactFamily, H: Hasher>(
+    log: &CompactLog<F, H>,
+    ops: &[F::Op],
+) -> Result<CompactLog<F, H>, LogFault>
+    requires { first_refusal F.floor_of log.now.size (floor_or_zero (F.floor_of log.now.last)) (batches_of F.floor_of ops.now) ≡ None }
+    ensures may { IsOkUnless result LogFault.OutOfMemory }
+    ensures ok { IfOk result (λ new. new ≡ with_batches (with_batch H.digest F.Op.spelling) log.now (batches_of F.floor_of ops.now)) }
+{
+    let mut grown = match log.copy() {
         Ok(copy) => copy,
         Err(fault) => return Err(fault),
     };
     let mut rest = ops;
     while rest.len() > 0 {
         let (batch, more) = rest.split_at(first_batch::<F>(rest));
-        match grown.take_batch(batch) {
+        match grown.append_batch(batch) {
             Ok(()) => {}
             Err(fault) => return Err(fault),
         }

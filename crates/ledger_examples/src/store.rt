@@ -1,8 +1,9 @@
 //! What adding batches needs of a log, full or compact.
-ghost use Rattle.std.specs.Prelude.{◌≡◌, ℕ, ◌+◌, ◌<◌, ◌≤◌, ◌^◌, List, Some, length, MatchOption, IsOkUnless, IfOk, OnOk, OnErr};
+ghost use Rattle.std.specs.Prelude.{◌≡◌, ℕ, ◌+◌, ◌<◌, ◌≤◌, ◌^◌, List, Some, None, length, IsOkUnless, OnOk, OnErr};
 ghost use Rattle.ledger_log.specs.View.{batch_floor};
-ghost use Rattle.ledger_log.specs.Faults.{batch_refusal};
+ghost use Rattle.ledger_examples.specs.Batches.{batches_of, first_refusal, with_batches};
 
+use crate::adding::{extend_compact, extend_log};
 use ledger_codec::Digest;
 use ledger_compact::CompactLog;
 use ledger_log::{CompactFamily, Family, Log, LogFault};
@@ -35,16 +36,13 @@ pub trait BatchStore<F: Family>: Drop {
     fn digest(&self) -> Digest
         ensures { result ≡ root_of self.now };
 
-    /// Appends a batch, or leaves the log as it was.
-    fn take_batch(&mut self, ops: &[F::Op]) -> Result<(), LogFault>
-        ensures refusal { MatchOption (batch_refusal (size_of self.old) (last_floor_of self.old) (length ops.now) (batch_floor F.floor_of ops.now)) (IsOkUnless result LogFault.OutOfMemory) (λ fault. result ≡ Err fault) }
-        ensures ok { OnOk result (self.new ≡ appended self.old ops.now) }
-        ensures err { OnErr result (self.new ≡ self.old) };
-
-    /// An equal log. Refused for want of memory alone.
-    fn duplicate(&self) -> Result<Self, LogFault>
+    /// Appends operations, each run up to a commit as one batch, where the log takes all these batches: all of
+    /// them or, where memory is refused, none. It costs what is appended.
+    fn take_batches(&mut self, ops: &[F::Op]) -> Result<(), LogFault>
+        requires { first_refusal F.floor_of (size_of self.old) (last_floor_of self.old) (batches_of F.floor_of ops.now) ≡ None }
         ensures may { IsOkUnless result LogFault.OutOfMemory }
-        ensures ok { IfOk result (λ log. log ≡ self.now) };
+        ensures ok { OnOk result (self.new ≡ with_batches appended self.old (batches_of F.floor_of ops.now)) }
+        ensures err { OnErr result (self.new ≡ self.old) };
 
     // A batch adds its operations, and its floor is the last.
     ghost size_after: { (log : Self) (ops : List F.Op) → size_of (appended log ops) ≡ size_of log + length ops };
@@ -77,12 +75,8 @@ impl<F: Family, H: Hasher> BatchStore<F> for Log<F, H> {
         self.root()
     }
 
-    fn take_batch(&mut self, ops: &[F::Op]) -> Result<(), LogFault> {
-        self.append_batch(ops)
-    }
-
-    fn duplicate(&self) -> Result<Log<F, H>, LogFault> {
-        self.copy()
+    fn take_batches(&mut self, ops: &[F::Op]) -> Result<(), LogFault> {
+        extend_log(self, ops)
     }
 
     ghost size_after = { log_size_after };
@@ -115,12 +109,8 @@ impl<F: CompactFamily, H: Hasher> BatchStore<F> for CompactLog<F, H> {
         self.root()
     }
 
-    fn take_batch(&mut self, ops: &[F::Op]) -> Result<(), LogFault> {
-        self.append_batch(ops)
-    }
-
-    fn duplicate(&self) -> Result<CompactLog<F, H>, LogFault> {
-        self.copy()
+    fn take_batches(&mut self, ops: &[F::Op]) -> Result<(), LogFault> {
+        extend_compact(self, ops)
     }
 
     ghost size_after = { compact_size_after H.digest F.Op.spelling };

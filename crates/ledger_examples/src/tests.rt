@@ -249,18 +249,22 @@ fn is_proved(log: &Full<ImmutableFamily>, at: Location) -> Result<bool, LogFault
     Ok(check_range::<Sha256Hasher, ImmutableOp>(&root, &proof, size, at, ops.as_slice()).is_ok())
 }
 
-/// How many of each 97th of the places from here on are proved.
-fn count_proved(log: &Full<ImmutableFamily>, from: u64) -> Result<u64, LogFault>
+/// How many places each 97th from here on are; None where one of them isn't proved.
+fn count_proved(log: &Full<ImmutableFamily>, from: u64) -> Result<Option<u64>, LogFault>
     requires { from ≤ 2 ^ 32 }
 {
-    let mut proved = 0;
-    let count = log.size().get().saturating_sub(from).div_ceil(97);
-    for step in 0..count.min(1 << 32) {
-        if is_proved(log, Location::ZERO.plus(from + 97 * step))? {
-            proved = step + 1;
+    let count = log
+        .size()
+        .get()
+        .saturating_sub(from)
+        .div_ceil(97)
+        .min(1 << 32);
+    for step in 0..count {
+        if !is_proved(log, Location::ZERO.plus(from + 97 * step))? {
+            return Ok(None);
         }
     }
-    Ok(proved)
+    Ok(Some(count))
 }
 
 /// A log of 10,000 test operations twice.
@@ -276,10 +280,10 @@ fn proves_a_large_log_pruned_and_whole(rt: HostRuntime) -> Result<(), LogFault> 
     let mut log = large(rt.alloc())?;
     assert_eq!(rt; log.size().get(), 22_003);
     assert_eq!(rt; log.root(), LARGE);
-    assert_eq!(rt; count_proved(&log, 0)?, 227);
+    assert_eq!(rt; count_proved(&log, 0)?, Some(227));
     log.prune(log.floor())?;
     assert_eq!(rt; log.front().get(), 10_000);
-    assert_eq!(rt; count_proved(&log, 10_000)?, 124);
+    assert_eq!(rt; count_proved(&log, 10_000)?, Some(124));
     assert_eq!(rt; log.root(), LARGE);
     Ok(())
 }
