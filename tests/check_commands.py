@@ -1,0 +1,103 @@
+#!/usr/bin/env python3
+"""Runs the commands that README.md and docs/ name, but for the merge gate's own: `bin/ledger` with the program built,
+in a copy where it isn't, and its build over an `rt` that only notes its calls; and the programs of bench/, for small
+work. Expects the programs that `rt ci` leaves. Ends with a line 'N passed, M failed'.
+
+    python3 tests/check_commands.py
+"""
+import os
+import pathlib
+import shutil
+import subprocess
+import sys
+import tempfile
+
+from check_docs import TOP, Checks
+
+FIRST = "examples/first.job"
+# What is run of bench/, with work that takes no time.
+BENCHES = {
+    "bench/local.py": ["--accounts", "100", "--payments", "100", "--times", "1"],
+    "bench/follow.py": ["--accounts", "1000", "--times", "1"],
+    "bench/log.py": ["--operations", "4000", "--ranges", "10", "--times", "1"],
+    "bench/hostile.py": ["--payments", "100", "--bytes", "1000", "--times", "1"],
+}
+# Notes its folder and its words, and leaves a program.
+NOTING = """#!/bin/sh
+echo "$(basename "$PWD") $*" >> "$NOTES"
+mkdir -p out && echo '#!/bin/sh' > out/ledger_main && chmod +x out/ledger_main
+"""
+
+
+def run(command, folder=TOP, job=None, **more):
+    source = open(folder / job, "rb") if job else subprocess.DEVNULL
+    return subprocess.run(command, cwd=folder, stdin=source, capture_output=True, text=True, **more)
+
+
+def copy_to(folder):
+    """The repository without what was built."""
+    shutil.copytree(TOP, folder, ignore=shutil.ignore_patterns("out", ".git"))
+
+
+def check_built(checks):
+    done = run(["bin/ledger", "local"], job=FIRST)
+    checks.hold(done.returncode == 0, f"bin/ledger local: status {done.returncode}\n{done.stderr}")
+    checks.hold(done.stdout == (TOP / "examples/first.out").read_text(), f"bin/ledger local printed\n{done.stdout}")
+    done = run(["bin/ledger", "nothing"])
+    checks.hold((done.returncode, done.stdout) == (2, "error usage\n"), f"bin/ledger nothing printed\n{done.stdout}")
+    done = run(["bin/ledger", "help"])
+    checks.hold(done.returncode == 0 and done.stdout.startswith("bin/ledger local"), "bin/ledger help doesn't help")
+
+
+def check_unbuilt(checks):
+    """Without the program the same comes out, with one line that says so."""
+    with tempfile.TemporaryDirectory() as place:
+        folder = pathlib.Path(place) / "copy"
+        copy_to(folder)
+        done = run(["bin/ledger", "local"], folder, FIRST)
+        checks.hold(done.returncode == 0, f"not built: status {done.returncode}\n{done.stderr}")
+        checks.hold(done.stdout == (TOP / "examples/first.out").read_text(), f"not built, it printed\n{done.stdout}")
+        lines = done.stderr.splitlines()
+        checks.hold(len(lines) == 1 and "bin/ledger build" in lines[0], f"not built, it said\n{done.stderr}")
+        done = run(["bin/ledger", "local"], folder, "examples/refused.job")
+        checks.hold(done.returncode == 9, f"not built: status {done.returncode} of a refused job")
+        checks.hold(done.stdout == (TOP / "examples/refused.out").read_text(), f"not built, it printed\n{done.stdout}")
+
+
+def check_build(checks):
+    """The build makes each crate that the program stands on, once, behind those that it stands on."""
+    with tempfile.TemporaryDirectory() as place:
+        folder, notes = pathlib.Path(place) / "copy", pathlib.Path(place) / "notes"
+        copy_to(folder)
+        (pathlib.Path(place) / "rt").write_text(NOTING)
+        (pathlib.Path(place) / "rt").chmod(0o755)
+        told = dict(os.environ, PATH=f"{place}:{os.environ['PATH']}", NOTES=str(notes))
+        done = run(["bin/ledger", "build"], folder, env=told)
+        checks.hold(done.returncode == 0, f"bin/ledger build: status {done.returncode}\n{done.stderr}")
+        begun = [line.split()[0] for line in notes.read_text().splitlines()]
+        lines = [line for line in (TOP / "crates.txt").read_text().splitlines() if line and not line.startswith("#")]
+        stands_on = {line.split(":")[0]: line.split(":")[1].split() for line in lines}
+        checks.hold(len(begun) == len(set(begun)) and begun[-1] == "ledger_main", f"bin/ledger build made {begun}")
+        for at, crate in enumerate(begun):
+            lower = {low for low in stands_on[crate] if low in stands_on}
+            checks.hold(lower <= set(begun[:at]), f"bin/ledger build made {crate} before what it stands on")
+        checks.hold(f"{len(begun)} of {len(begun)}: ledger_main" in done.stdout, "bin/ledger build doesn't show how far it is")
+
+
+def check_benches(checks):
+    for script, words in BENCHES.items():
+        done = run([sys.executable, script, *words])
+        checks.hold(done.returncode == 0, f"{script}: status {done.returncode}\n{done.stderr}")
+
+
+def main():
+    checks = Checks()
+    for check in (check_built, check_unbuilt, check_build, check_benches):
+        check(checks)
+    checks.hold(run(["rt", "version"]).returncode == 0, "rt version fails")
+    print(f"{checks.passed} passed, {checks.failed} failed")
+    return 1 if checks.failed else 0
+
+
+if __name__ == "__main__":
+    sys.exit(main())
