@@ -18,7 +18,7 @@ use Rattle.ledger_transfers.specs.declared.held.Held.{Held}
 use Rattle.ledger_transfers.specs.declared.totals.Totals.{Totals}
 use Rattle.ledger_transfers.specs.Rules.{Rules, AccountLaws}
 use Rattle.ledger_transfers.specs.Touches.{total_of, max_amount, no_total}
-use Rattle.ledger_transfers.specs.Settling.{Settles, SettlesTo, opened, folded, SameSlot, slot_of}
+use Rattle.ledger_transfers.specs.Settling.{Settles, SettlesTo, opened, folded, final_balance, SameSlot, slot_of}
 use Rattle.ledger_transfers.specs.Taking.{IsHeld, kept}
 use Rattle.ledger_transfers.specs.Selecting.{StandsFor, opened_at}
 use Rattle.ledger_transfers.specs.Registering.{registered, fresh, IsSelection, IsKeySlot, AreSettled, AreAmounts}
@@ -147,16 +147,15 @@ module _ {A E K : Type 0} (eq : K → K → Bool) (laws : IsEquivalence eq) (sam
 
 module _ {A E : Type 0} (same : A → A → Bool) (equiv : IsEquivalence same) (rules : Rules A E) (laws : AccountLaws same rules) where
   -- the slot of what is kept
-  pub held_settles_to : (h : Held A) (total : Totals E) (before done final : A) (balance : ℕ) (slot : Slot A) → IsHeld same rules h.read h.sums total → Settles rules (opened rules h.read) total → same before (opened rules h.read) ≡ true
-      → same done (kept rules h.read h.sums) ≡ true → balance ≡ (rules.balance_of before - h.sums.debits) + h.sums.credits → same final (rules.with_balance done balance) ≡ true → SameSlot same slot (slot_of same rules before final)
-      → SettlesTo same rules (opened rules h.read) total slot
-  held_settles_to h total before done final balance slot held settles b d is set t =
+  pub held_settles_to : (h : Held A) (total : Totals E) (done final : A) (balance : ℕ) (slot : Slot A) → IsHeld same rules h.read h.sums total → Settles rules (opened rules h.read) total
+      → same done (kept rules h.read h.sums) ≡ true → balance ≡ (rules.balance_of (opened rules h.read) - h.sums.debits) + h.sums.credits → same final (rules.with_balance done balance) ≡ true
+      → SameSlot same slot (slot_of same rules (opened rules h.read) final) → SettlesTo same rules (opened rules h.read) total slot
+  held_settles_to h total done final balance slot held settles d is set t =
       let o = opened rules h.read in
-      let one = laws.one_balance before o b in
-      let sum : balance ≡ (rules.balance_of before - total.debits) + total.credits = is ∙ ap (λ n. (rules.balance_of before - n) + h.sums.credits) held.debits ∙ ap (λ n. (rules.balance_of before - total.debits) + n) held.credits in
-      settles_to same equiv rules laws o before o done final total balance slot b (equiv.symm o before ∙ b)
+      let sum : balance ≡ final_balance rules o total = is ∙ ap (λ n. (rules.balance_of o - n) + h.sums.credits) held.debits ∙ ap (λ n. (rules.balance_of o - total.debits) + n) held.credits in
+      settles_to same equiv rules laws o o done final total balance slot (equiv.refl o)
       (outcome_trans same equiv rules laws (Some done) (Some (kept rules h.read h.sums)) (folded rules o total.effects) d held.account)
-      (subst (λ n. total.debits ≤ n) (sym one) settles.funded) sum (subst (λ n. n ≤ max_amount) (sym (sum ∙ ap (λ n. (n - total.debits) + total.credits) one)) settles.fits) set t
+      settles.funded sum (subst (λ n. n ≤ max_amount) (sym sum) settles.fits) set t
 
 is_ok_of : {T F : Type 0} (r : Result T F) (P : Type 0) → is_err r ≡ false → OnOk r P → P
 is_ok_of (Ok x) P h p = p

@@ -1,5 +1,5 @@
--- A key that is settled on copies of its account settles.
-use Rattle.std.proofs.Common.{◌≡◌, ℕ, ◌+◌, ◌-◌, ◌≤◌, Bool, true, false, cond, List, [], ◌∷◌, ◌++◌, length, slice_get, unwrap_or, Option, None, Some, refl, sym, ap, subst, ◌∙◌, true≢false}
+-- A key that is settled on a copy of its account settles.
+use Rattle.std.proofs.Common.{◌≡◌, ℕ, ◌+◌, ◌-◌, ◌≤◌, Bool, true, false, cond, List, slice_get, unwrap_or, Option, None, Some, refl, sym, ap, subst, ◌∙◌, true≢false}
 use Rattle.std.specs.Prelude.{IsSome, MatchOption}
 use Rattle.std.specs.Option.{option_map}
 use Rattle.std.specs.Cmp.{IsEquivalence}
@@ -49,24 +49,23 @@ module _ {A E : Type 0} (same : A → A → Bool) (equiv : IsEquivalence same) (
       by false true t p q = subst (λ z. SameSlot same s (cond z Keep (cond (same f rules.initial) Delete (Put f)))) p (subst (λ z. SameSlot same s (cond z Delete (Put f))) q t)
       by false false t p q = subst (λ z. SameSlot same s (cond z Keep (cond (same f rules.initial) Delete (Put f)))) p (subst (λ z. SameSlot same s (cond z Delete (Put f))) q (slot_put s e f k t))
 
-  pub settles_to : (o before copy done final : A) (total : Totals E) (balance : ℕ) (slot : Slot A) → same before o ≡ true → same copy before ≡ true → SameOutcome same (Some done) (folded rules copy total.effects)
-      → total.debits ≤ rules.balance_of before → balance ≡ (rules.balance_of before - total.debits) + total.credits → balance ≤ max_amount
-      → same final (rules.with_balance done balance) ≡ true → SameSlot same slot (slot_of same rules before final) → SettlesTo same rules o total slot
-  settles_to o before copy done final total balance slot b s f funded is fits set t =
-      let found = outcome_some (folded rules o total.effects) done (folded_copy o copy total.effects (Some done) (same_trans same equiv rules laws copy before o s b) f) in
-      let one = laws.one_balance before o b in
-      let last : balance ≡ final_balance rules o total = is ∙ ap (λ n. (n - total.debits) + total.credits) one in
+  -- a copy that takes the effects and the final balance gives the key's slot
+  pub settles_to : (o copy done final : A) (total : Totals E) (balance : ℕ) (slot : Slot A) → same copy o ≡ true → SameOutcome same (Some done) (folded rules copy total.effects)
+      → total.debits ≤ rules.balance_of o → balance ≡ final_balance rules o total → balance ≤ max_amount
+      → same final (rules.with_balance done balance) ≡ true → SameSlot same slot (slot_of same rules o final) → SettlesTo same rules o total slot
+  settles_to o copy done final total balance slot s f funded is fits set t =
+      let found = outcome_some (folded rules o total.effects) done (folded_copy o copy total.effects (Some done) s f) in
       let ends : same final (rules.with_balance found.0 (final_balance rules o total)) ≡ true =
       same_trans same equiv rules laws final (rules.with_balance done balance) (rules.with_balance found.0 (final_balance rules o total)) set
-      (subst (λ n. same (rules.with_balance done balance) (rules.with_balance found.0 n) ≡ true) last (laws.one_with_balance done found.0 balance found.2)) in
+      (subst (λ n. same (rules.with_balance done balance) (rules.with_balance found.0 n) ≡ true) is (laws.one_with_balance done found.0 balance found.2)) in
       record {
         settles = record {
           accepted = subst IsSome (sym found.1) refl;
-          funded = subst (λ n. total.debits ≤ n) one funded;
-          fits = subst (λ n. n ≤ max_amount) last fits;
+          funded = funded;
+          fits = subst (λ n. n ≤ max_amount) is fits;
         };
         slot_is = subst (λ r. MatchOption (option_map (λ b. rules.with_balance b (final_balance rules o total)) r) ⊥ (λ e. SameSlot same slot (slot_of same rules o e))) (sym found.1)
-            (slot_alike before o final (rules.with_balance found.0 (final_balance rules o total)) slot b ends t);
+            (slot_alike o o final (rules.with_balance found.0 (final_balance rules o total)) slot (equiv.refl o) ends t);
       }
 
   accepted_alike : (r t : Option A) → SameOutcome same r t → IsSome r → IsSome t

@@ -1,12 +1,12 @@
 -- Slots that are worked out in parts.
-use Rattle.std.proofs.Common.{◌≡◌, ℕ, Bool, List, Option, Result, Ok, Err, Vec, Global, IfOk, IfErr, length, slice_get, Some, sym, ap, subst, ◌∙◌}
+use Rattle.std.proofs.Common.{◌≡◌, ℕ, Bool, List, Option, Result, Err, Vec, Global, IfErr, length, slice_get, Some, sym, subst, ◌∙◌}
 use mathlib.Core.Logic.{◌⊎◌, inl, inr}
 use Rattle.ledger_strategy.specs.Parts.{AreResults, HasFault}
 use Rattle.ledger_strategy.proofs.PartsLemmas.{fault_at}
 use Rattle.ledger_transfers.specs.Rules.{Rules}
 use Rattle.ledger_transfers.specs.Settling.{opened, SettlesTo, IsSlotAt, AreSlots, PlanFails}
 use Rattle.ledger_transfers.specs.declared.fault.PlanFault.{PlanFault}
-use Rattle.ledger_transfers.specs.declared.fault.PlanFault.TheVariants.{Rejected, OutOfMemory}
+use Rattle.ledger_transfers.specs.declared.fault.PlanFault.TheVariants.{OutOfMemory}
 use Rattle.ledger_transfers.specs.declared.slot.Slot.{Slot}
 use Rattle.ledger_transfers.specs.declared.totals.Totals.{Totals}
 use Rattle.ledger_transfers.proofs.SelectLemmas.{Some_injective}

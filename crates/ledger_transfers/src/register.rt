@@ -13,9 +13,9 @@ ghost use Rattle.ledger_strategy.specs.Parts.{AreResultsFrom, start_of};
 
 use crate::account::Account;
 use crate::change::Change;
-use crate::held::{Held, Sums, kept_account, opening_balance};
+use crate::held::{Held, Sums, kept_account};
 use crate::seeded::Seeded;
-use crate::settle::{opening, slot};
+use crate::settle::{opening_balance, slot};
 use crate::slot::Slot;
 use indexmap::{IndexMap, IndexSet};
 use ledger_codec::OutOfMemory;
@@ -129,11 +129,10 @@ pub(crate) fn register_all<K: Copy + Eq + Hash, A: Account>(
 fn settle_held<A: Account>(alloc: Global, held: &Held<A>) -> Result<Slot<A>, OutOfMemory>
     ensures { IfOk result (λ slot. (total : _) → IsHeld A.eq A.rules held.now.read held.now.sums total → Settles A.rules (opened A.rules held.now.read) total → SettlesTo A.eq A.rules (opened A.rules held.now.read) total slot) }
 {
-    let before = opening(alloc, &held.read)?;
     let mut account = kept_account(alloc, &held.read, &held.sums)?;
-    let left = before.balance().saturating_sub(held.sums.debits);
+    let left = opening_balance(&held.read).saturating_sub(held.sums.debits);
     account.set_balance(left.saturating_add(held.sums.credits));
-    Ok(slot(before, account))
+    Ok(slot(&held.read, account))
 }
 
 /// The slot of the registered key at a place.

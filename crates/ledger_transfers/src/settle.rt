@@ -32,7 +32,27 @@ pub(crate) fn opening<A: Account>(alloc: Global, read: &Option<A>) -> Result<A, 
     }
 }
 
-/// The slot of a key, or the first reason for which there is none.
+/// The balance that a key opens with.
+pub(crate) fn opening_balance<A: Account>(read: &Option<A>) -> u64
+    ensures { result ≡ A.rules.balance_of (opened A.rules read.now) }
+{
+    match read {
+        Some(account) => account.balance(),
+        None => A::default_account().balance(),
+    }
+}
+
+/// Whether the account equals the one that its key opens with.
+fn is_opening<A: Account>(read: &Option<A>, account: &A) -> bool
+    ensures { result ≡ A.eq account.now (opened A.rules read.now) }
+{
+    match read {
+        Some(before) => *account == *before,
+        None => *account == A::default_account(),
+    }
+}
+
+/// The slot of a key, or the first reason for which there is none. The account is copied once.
 pub(crate) fn settle_key<K: Copy, A: Account>(
     alloc: Global,
     key: K,
@@ -42,30 +62,27 @@ pub(crate) fn settle_key<K: Copy, A: Account>(
     ensures settled { IfOk result (λ slot. SettlesTo A.eq A.rules (opened A.rules read.now) total.now slot) }
     ensures fails { IfErr result (KeyFails A.rules (opened A.rules read.now) total.now key) }
 {
-    let Ok(before) = opening(alloc, read) else {
-        return Err(PlanFault::OutOfMemory);
-    };
-    let Ok(mut account) = before.copy(alloc) else {
+    let Ok(mut account) = opening(alloc, read) else {
         return Err(PlanFault::OutOfMemory);
     };
     if !apply_all(&mut account, total.effects.as_slice()) {
         return Err(PlanFault::Rejected(Rejection::Refused(key)));
     }
-    let Some(funded) = before.balance().checked_sub(total.debits) else {
+    let Some(funded) = opening_balance(read).checked_sub(total.debits) else {
         return Err(PlanFault::Rejected(Rejection::Insufficient(key)));
     };
     let Some(balance) = funded.checked_add(total.credits) else {
         return Err(PlanFault::Rejected(Rejection::Overflow(key)));
     };
     account.set_balance(balance);
-    Ok(slot(before, account))
+    Ok(slot(read, account))
 }
 
 /// What becomes of an account that ends as `account`.
-pub(crate) fn slot<A: Account>(before: A, account: A) -> Slot<A>
-    ensures { SameSlot A.eq result (slot_of A.eq A.rules before account) }
+pub(crate) fn slot<A: Account>(read: &Option<A>, account: A) -> Slot<A>
+    ensures { SameSlot A.eq result (slot_of A.eq A.rules (opened A.rules read.now) account) }
 {
-    if account == before {
+    if is_opening(read, &account) {
         Slot::Keep
     } else if account == A::default_account() {
         Slot::Delete

@@ -9,9 +9,10 @@ ghost use Rattle.ledger_transfers.specs.Trying.{IsRevision, SettlesHeld, FailsHe
 
 use crate::account::Account;
 use crate::change::Change;
-use crate::held::{Held, kept_account, opening_balance};
+use crate::held::{Held, kept_account};
 use crate::revise::{Revision, exchange};
 use crate::seeded::Seeded;
+use crate::settle::opening_balance;
 use indexmap::IndexMap;
 use ledger_codec::OutOfMemory;
 use std::alloc::Global;

@@ -1,4 +1,4 @@
-use Rattle.std.proofs.Common.{◌≡◌, sym}
+use Rattle.std.proofs.Common.{sym}
 use Rattle.std.proofs.lemmas.Result.{IfOk-weaker}
 use Rattle.ledger_transfers.specs.declared.held.Held.{Held}
 use Rattle.ledger_transfers.proofs.RegisterLemmas.{key_slot}

@@ -10,13 +10,11 @@ returns g c total held settles =
     let rules = g.A.Account.rules in
     let h = c.args.held.now in
     let o = opened rules h.read in
-    let before = c.in_ok-before.before in
-    let one = laws.laws.one_balance before o c.in_ok-before.ensures in
+    let opens = c.opening_balance.ensures in
     let left = c.saturating_sub-left.ensures in
     let sum = c.saturating_add.ensures in
-    let balance = c.balance.ensures in
     let ds = held.debits in
     let cs = held.credits in
     let fits = settles.fits in
-    let is : c.saturating_add.result ≡ (rules.balance_of before - h.sums.debits) + h.sums.credits = omega arith in
-    held_settles_to g.A.PartialEq.eq eq.laws rules laws.laws h total before c.in_ok-account.account c.set_balance.new.self c.saturating_add.result c.slot.result held settles c.in_ok-before.ensures c.in_ok-account.ensures is c.set_balance.ensures c.slot.ensures
+    let is : c.saturating_add.result ≡ (rules.balance_of o - h.sums.debits) + h.sums.credits = omega arith in
+    held_settles_to g.A.PartialEq.eq eq.laws rules laws.laws h total c.in_ok-account.account c.set_balance.new.self c.saturating_add.result c.slot.result held settles c.in_ok-account.ensures is c.set_balance.ensures c.slot.ensures

@@ -1,4 +1,4 @@
-use Rattle.std.proofs.Common.{◌≡◌, length, sym, subst, arith}
+use Rattle.std.proofs.Common.{length, sym, subst}
 use Rattle.std.proofs.lemmas.Result.{IfErr-weaker}
 use Rattle.ledger_strategy.specs.Parts.{AreResults}
 use Rattle.ledger_strategy.proofs.PartsLemmas.{results_by_rows, if_ok_both}
