@@ -14,6 +14,9 @@
 //! The bytes that are hashed and the order of a proof's digests are those of docs/FORMATS.md.
 #![tactic(auto)]
 
+mod binding;
+#[cfg(test)]
+mod binding_tests;
 mod hashed;
 mod hasher;
 mod leaf;
@@ -27,10 +30,12 @@ mod range;
 mod retained;
 mod sha;
 mod spelling;
+mod spine;
 #[cfg(test)]
 mod tests;
 mod toy;
 
+pub use binding::collision;
 pub use hashed::{hash_item, hash_leaf, hash_node, hash_root};
 pub use hasher::Hasher;
 pub use leaf::Leaf;
