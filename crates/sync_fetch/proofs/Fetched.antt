@@ -1,5 +1,5 @@
 -- A whole fetch: the request that was sent, and what came of it.
-use Rattle.std.proofs.Common.{◌≡◌, ℕ, ◌+◌, ◌-◌, ◌≤◌, ◌^◌, Bool, true, false, List, [], ◌∷◌, ◌++◌, Option, Some, Result, Ok, Err, refl, sym, ap, subst, ◌∙◌, arith, inl, inr}
+use Rattle.std.proofs.Common.{◌≡◌, ℕ, ◌+◌, ◌-◌, ◌≤◌, ◌^◌, Bool, true, false, List, [], ◌∷◌, ◌++◌, Option, Some, Result, Ok, Err, refl, ap, subst, ◌∙◌, arith, inl, inr}
 use Rattle.std.specs.Prelude.{min}
 use Rattle.std.proofs.lemmas.List.{append-nil}
 use Rattle.ledger_codec.specs.Causes.{Rose}
@@ -24,7 +24,7 @@ use Rattle.sync_client.specs.declared.fault.SyncFault.TheVariants as faults
 use Rattle.sync_client.specs.Ending.{Since}
 use Rattle.sync_client.proofs.Stepping.{Since-none, Since-then, Since-sent}
 use Rattle.sync_fetch.specs.Exchange.{Exchange, IsRead, Reply, Pends}
-use Rattle.sync_fetch.specs.Told.{Sends, Heard, Starved, Came, Stops, Awaits, pending_of, FetchStops, FetchCame}
+use Rattle.sync_fetch.specs.Told.{Sends, Heard, Came, Stops, Awaits, pending_of, FetchStops, FetchCame}
 
 rose_since : (a b c : ℕ) → a ≤ b → Rose b c → Rose a c
 rose_since a b c le h = let r : min (b + 1) (2 ^ 64 - 1) ≤ c = h in omega arith

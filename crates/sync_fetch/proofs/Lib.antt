@@ -2,3 +2,5 @@ pub mod Answering
 pub mod Waiting
 pub mod Fetched
 pub mod Single
+pub mod Serving
+pub mod Owed

@@ -1,11 +1,9 @@
 -- Over the same bytes the waiting for an answer ends in one way.
-use Rattle.std.proofs.Common.{◌≡◌, ℕ, ◌+◌, Bool, true, false, List, [], ◌∷◌, Option, Some, None, Result, Ok, Err, refl, sym, ap, subst, ◌∙◌, inl, inr}
+use Rattle.std.proofs.Common.{◌≡◌, ℕ, ◌+◌, Bool, true, false, List, [], ◌∷◌, Some, None, Ok, Err, refl, sym, ap, subst, ◌∙◌, inl, inr}
 use Rattle.ledger_codec.specs.Parsing.{Parsed}
-use Rattle.ledger_codec.specs.Frames.{Front, Whole, Short, Bad, front, Leads}
+use Rattle.ledger_codec.specs.Frames.{Whole, Short, Bad, front, Leads}
 use Rattle.sync_net.specs.declared.ask.Pending.{Pending}
-use Rattle.sync_net.specs.declared.message.Message.{Message}
-use Rattle.sync_client.specs.Session.{Offence}
-use Rattle.sync_fetch.specs.Exchange.{exchange_frame, Strays, Reply, Answered, Refused, Closed, Pends, RepliesSo, Exchange, OneWay}
+use Rattle.sync_fetch.specs.Exchange.{exchange_frame, Strays, Reply, Answered, Refused, Closed, Pends, RepliesSo, OneWay}
 
 same_body : (a b c d : List ℕ) → Whole a b ≡ Whole c d → a ≡ c
 same_body a b c d e = cc

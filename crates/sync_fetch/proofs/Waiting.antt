@@ -24,7 +24,7 @@ use Rattle.sync_client.specs.Ending.{Since}
 use Rattle.sync_client.specs.Turns.{Receives}
 use Rattle.sync_client.proofs.Stepping.{Since-none, Since-then, Leads-on}
 use Rattle.sync_fetch.specs.Exchange.{exchange_frame, Exchange, Strays, IsRead, Reply, Refused, Closed, Pends, RepliesSo}
-use Rattle.sync_fetch.specs.Told.{HeldAnswer, NextAnswer, IsDrawn, Heard, Starved, Came, Stops, fed}
+use Rattle.sync_fetch.specs.Told.{HeldAnswer, NextAnswer, IsDrawn, Heard, Came, Stops, fed}
 use Rattle.sync_fetch.proofs.Answering.{taken_away, unread, replied, strayed, unexpected, served_error}
 
 rose_since : (a b c : ℕ) → a ≤ b → Rose b c → Rose a c

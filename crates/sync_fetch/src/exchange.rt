@@ -1,7 +1,12 @@
 //! One request over a link, and its answer.
-ghost use Rattle.std.specs.Prelude.{◌≡◌, ◌<◌, ◌≤◌, ◌∷◌, [], length, IsTrue, false};
+ghost use Rattle.std.specs.Prelude.{◌≡◌, ◌<◌, ◌≤◌, ◌∷◌, [], List as Items, ℕ, Ok, length, IsTrue, false};
+ghost use Rattle.ledger_codec.specs.Sequences.{all_of, string_written};
 ghost use Rattle.sync_client.specs.Counts.{CountKept, NeverNetwork};
+ghost use Rattle.sync_net.specs.Core.{LogData};
+ghost use Rattle.sync_net.specs.Messages.{message_at};
+ghost use Rattle.sync_net.specs.Numbered.{number_of};
 ghost use Rattle.sync_net.specs.declared.ask.Pending.{Pending as PendingValue};
+ghost use Rattle.sync_fetch.specs.Served.{IsDue, NextServed, ReplyServed, ServesSent};
 ghost use Rattle.sync_fetch.specs.Told.{HeldAnswer, NextAnswer, Awaits, Sends};
 
 use ledger_codec::Spell;
@@ -19,6 +24,7 @@ pub(crate) fn send_request<L: Link>(
     ensures exact { IsTrue L.exact → CountKept result (L.faults link.old) (L.faults link.new) }
     ensures steady { L.steady link.old → L.steady link.new × NeverNetwork result (L.faults link.old) (L.faults link.new) }
     ensures sends { Sends result made (L.wire link.old) (L.wire link.new) (L.faults link.old) (L.faults link.new) }
+    ensures serving { ServesSent result made (L.service link.old) (L.service link.new) }
 {
     let frame = match made {
         Ok(submitted) => submitted.frame,
@@ -62,6 +68,10 @@ fn next_answer<Op: Spell, L: Link>(
     ensures exact { IsTrue L.exact → CountKept result (L.faults link.old) (L.faults link.new) }
     ensures steady { L.steady link.old → L.steady link.new × NeverNetwork result (L.faults link.old) (L.faults link.new) }
     ensures answers { NextAnswer result Op.reading machine.old machine.new (L.wire link.old) (L.wire link.new) (L.faults link.old) (L.faults link.new) }
+    ensures serving { (held : LogData) (body : Items ℕ)
+        → length body ≤ 10485760
+        → IsDue held (string_written body) machine.old.held (L.service link.old)
+        → NextServed result Op.reading body held machine.old machine.new (L.service link.new) }
 {
     loop {
         match answer_held(machine) {
@@ -85,6 +95,13 @@ pub(crate) fn await_reply<Op: Spell, L: Link>(
     ensures exact { IsTrue L.exact → CountKept result (L.faults link.old) (L.faults link.new) }
     ensures steady { L.steady link.old → L.steady link.new × NeverNetwork result (L.faults link.old) (L.faults link.new) }
     ensures awaits { (p : PendingValue) → machine.old.pending ≡ p ∷ [] → Awaits result Op.reading p machine.old machine.new (L.wire link.old) (L.wire link.new) (L.faults link.old) (L.faults link.new) }
+    ensures serving { (held : LogData) (p : PendingValue) (body : Items ℕ) (reply : Message Op)
+        → length body ≤ 10485760
+        → all_of (message_at Op.reading) body ≡ Ok reply
+        → p.number ≡ number_of reply
+        → machine.old.pending ≡ p ∷ []
+        → IsDue held (string_written body) machine.old.held (L.service link.old)
+        → ReplyServed result p reply held machine.new (L.service link.new) }
 {
     let mut buffer = [0; BUFFER_SIZE];
     let mut strays = 0;

@@ -1,7 +1,10 @@
 //! Fetching what there is to sync to.
 ghost use Rattle.std.specs.Prelude.{◌≡◌, [], IsTrue};
 ghost use Rattle.sync_client.specs.Counts.{CountKept, NeverNetwork};
+ghost use Rattle.sync_client.specs.Owing.{Begins};
+ghost use Rattle.sync_net.specs.Core.{LogData};
 ghost use Rattle.sync_fetch.specs.Exchange.{OneWay};
+ghost use Rattle.sync_fetch.specs.Served.{FetchesTarget, IsToldOf, RefusesCompact};
 ghost use Rattle.sync_fetch.specs.Told.{TargetFetched, CompactTargetFetched};
 
 use crate::exchange::{await_reply, send_request};
@@ -21,6 +24,9 @@ pub fn fetch_target<Op: Spell, L: Link>(
     ensures one_way { OneWay Op.reading }
     ensures exact { IsTrue L.exact → CountKept result (L.faults link.old) (L.faults link.new) }
     ensures steady { L.steady link.old → L.steady link.new × NeverNetwork result (L.faults link.old) (L.faults link.new) }
+    ensures serving { (held : LogData) (h : IsToldOf Op.written held)
+        → Begins held machine.old (L.service link.old)
+        → FetchesTarget Op.written held h.log result machine.new (L.service link.new) }
 {
     let made = machine.submit_sync_target();
     match send_request(made, link) {
@@ -47,6 +53,9 @@ pub fn fetch_compact_target<Op: Spell, L: Link>(
     ensures one_way { OneWay Op.reading }
     ensures exact { IsTrue L.exact → CountKept result (L.faults link.old) (L.faults link.new) }
     ensures steady { L.steady link.old → L.steady link.new × NeverNetwork result (L.faults link.old) (L.faults link.new) }
+    ensures serving { (held : LogData)
+        → Begins held machine.old (L.service link.old)
+        → RefusesCompact held result (L.service link.new) }
 {
     let made = machine.submit_compact_target();
     match send_request(made, link) {

@@ -2,6 +2,7 @@ use Rattle.std.proofs.Common.{◌∙◌, ap, ℕ, List, Err, Result, inr}
 use Rattle.std.specs.Prelude.{option_map}
 use Rattle.sync_net.specs.Wire.{with_sent}
 use Rattle.sync_net.specs.declared.link.LinkError.{LinkError}
+use Rattle.sync_fetch.proofs.Owed.{sent_so}
 use Rattle.sync_fetch.proofs.exchange.send_request.Goals as goal
 
 abbrev failure : LinkError → Result (Unit {0}) LinkError
@@ -17,3 +18,7 @@ returns-in-Err-Failed-clause-sends g c =
 
 pub returns-clause-sends : goal.returns-clause-sends
 returns-clause-sends g c = (c.in-Err-OutOfMemory-send.ensures.wire_now, c.in-Err-OutOfMemory-send.ensures.cause.later, inr (c.in-Ok.submitted, c.in-Ok.is))
+
+pub returns-in-Ok-send-clause-serving : goal.returns-in-Ok-send-clause-serving
+returns-in-Ok-send-clause-serving g c =
+    sent_so c.args.made c.in-Ok.submitted tt _ (g.L.Link.service c.args.link.now) (g.L.Link.service c.send.new.self) c.in-Ok.is c.deref.ensures.value c.in-Ok-send.ensures.service_now
