@@ -1,5 +1,6 @@
 pub mod TotalLemmas
 pub mod PlanLemmas
+pub mod OrderOfTouches
 pub mod AccountLemmas
 pub mod TouchesLemmas
 pub mod GreedyLemmas

@@ -2,11 +2,12 @@
 ghost use Rattle.std.specs.Prelude.{◌≡◌, [], ◌∷◌, ◌+◌, ◌<◌, ◌≤◌, OnOk, OnErr, IfErr, IfOk, Some, unwrap_or, filter, not};
 ghost use Rattle.ledger_transfers.specs.Changes.{is_empty_change};
 ghost use Rattle.std.specs.Prelude.{map, length, ◌↔◌, IsTrue};
-ghost use Rattle.indexmap.specs.IndexMap.{get, Updates, IsUnique, index_map_len};
+ghost use Rattle.indexmap.specs.IndexMap.{get, insert_entry, Updates, IsUnique, index_map_len};
 ghost use Rattle.std.specs.Map.{keys_of};
 ghost use Rattle.ledger_transfers.specs.Settling.{AreSlots, PlanFails};
 ghost use Rattle.ledger_transfers.specs.Touches.{touches, no_total, with_change, FitsWith, IsPlanOf, IsWithinSums};
 ghost use Rattle.ledger_transfers.specs.Adds.{AddFails, GatherFails};
+ghost use Rattle.ledger_transfers.specs.Registering.{touched};
 ghost use Rattle.ledger_transfers.specs.Batches.{opened_by, BatchFails, BatchSettles};
 
 use crate::account::Account;
@@ -26,8 +27,8 @@ use std::marker::{Model, PhantomData};
 use std::random::RandomSource;
 use std::thread::Threads;
 
-/// The keys that a batch touches, each once, with the sums of its debits and credits and its effects in order. Contracts see the list
-/// of these entries; its order is open.
+/// The keys that a batch touches, each once and in order of first touch, with the sums of its debits and credits and its effects in
+/// order. Contracts see the list of these entries.
 #[derive(Drop)]
 pub struct Plan<K: Copy + Eq + Hash, A: Account> {
     table: IndexMap<K, Totals<A::Effect>, Seeded>,
@@ -53,6 +54,7 @@ fn add_touch<K: Copy + Eq + Hash, E: Copy>(
     change: Change<E>,
 ) -> Result<(), PlanFault<K>>
     ensures ok { OnOk result (Updates K.eq table.old table.new key (Some (with_change (unwrap_or (get K.eq table.old key) no_total) change))) }
+    ensures entries { OnOk result (table.new.entries ≡ insert_entry K.eq table.old.entries key (with_change (unwrap_or (get K.eq table.old key) no_total) change)) }
     ensures fits { OnOk result (FitsWith (unwrap_or (get K.eq table.old key) no_total) change) }
     ensures unique { OnOk result (IsUnique K.eq table.new) }
     ensures fails { IfErr result (AddFails (unwrap_or (get K.eq table.old key) no_total) key change) }
@@ -76,6 +78,7 @@ fn gather<K: Copy + Eq + Hash, E: Copy>(
     all: &[(K, Change<E>)],
 ) -> Result<IndexMap<K, Totals<E>, Seeded>, PlanFault<K>>
     ensures plan { IfOk result (λ table. IsPlanOf K.eq all.now table.entries) }
+    ensures order { IfOk result (λ table. keys_of table.entries ≡ touched K.eq [] all.now) }
     ensures within { OnOk result (IsWithinSums K.eq all.now) }
     ensures fails { IfErr result (GatherFails K.eq all.now) }
 {
@@ -97,6 +100,7 @@ impl<K: Copy + Eq + Hash, A: Account> Plan<K, A> {
         strategy: &S,
     ) -> Result<Self, PlanFault<K>>
         ensures plan { IfOk result (IsPlanOf K.eq (touches T.changes_of transfers.now)) }
+        ensures order { IfOk result (λ plan. keys_of plan ≡ touched K.eq [] (touches T.changes_of transfers.now)) }
         ensures within { OnOk result (IsWithinSums K.eq (touches T.changes_of transfers.now)) }
         ensures fails { IfErr result (GatherFails K.eq (touches T.changes_of transfers.now)) }
     {
@@ -112,6 +116,7 @@ impl<K: Copy + Eq + Hash, A: Account> Plan<K, A> {
         _strategy: &S,
     ) -> Result<Self, PlanFault<K>>
         ensures plan { IfOk result (IsPlanOf K.eq (touches T.changes_of transfers.now)) }
+        ensures order { IfOk result (λ plan. keys_of plan ≡ touched K.eq [] (touches T.changes_of transfers.now)) }
         ensures within { OnOk result (IsWithinSums K.eq (touches T.changes_of transfers.now)) }
         ensures fails { IfErr result (GatherFails K.eq (touches T.changes_of transfers.now)) }
     {
@@ -124,7 +129,7 @@ impl<K: Copy + Eq + Hash, A: Account> Plan<K, A> {
         })
     }
 
-    /// The touched keys, each once.
+    /// The touched keys, each once, in order of first touch.
     pub fn keys(&self) -> &[K]
         ensures { result.now ≡ keys_of self.now }
     {

@@ -1,6 +1,9 @@
 use Rattle.std.proofs.Common.{rules, ◌≡◌, ◌+◌, ◌++◌, ◌∷◌, [], take, sym, ap, subst, ◌∙◌}
 use Rattle.std.proofs.lemmas.List.{take_more}
+use Rattle.std.specs.Map.{keys_of}
 use Rattle.ledger_transfers.specs.Touches.{IsPlanOf, IsWithinSums}
+use Rattle.ledger_transfers.specs.Registering.{touched}
+use Rattle.ledger_transfers.proofs.OrderOfTouches.{touched_push}
 use Rattle.ledger_transfers.proofs.PlanLemmas.{IsPlanOf-push, IsWithinSums-push, gather_fails}
 use Rattle.ledger_transfers.proofs.plan.gather.Goals as goal
 
@@ -18,5 +21,6 @@ loop-key-preserved g c =
     let more : take (i + 1) all ≡ take i all ++ t ∷ [] = take_more all i t c.loop-key-test.true ∙ ap (λ x. take i all ++ x ∷ []) (sym c.loop-key-item.is) in
     record {
       plan = subst (λ us. IsPlanOf eq us c.add_touch.new.table.entries) (sym more) (IsPlanOf-push eq g.met.K.Eq.laws (take i all) t _ _ c.loop-key.invariant.plan c.in_ok-add_touch.ensures.unique c.in_ok-add_touch.ensures.ok.0);
+      order = ap keys_of c.in_ok-add_touch.ensures.entries ∙ touched_push eq (take i all) t _ _ c.loop-key.invariant.order ∙ ap (touched eq []) (sym more);
       within = subst (IsWithinSums eq) (sym more) (IsWithinSums-push eq g.met.K.Eq.laws (take i all) t _ c.loop-key.invariant.plan c.in_ok-add_touch.ensures.fits c.loop-key.invariant.within);
     }
