@@ -1,0 +1,3 @@
+pub mod Wallets
+pub mod Orders
+pub mod WalletProofs
