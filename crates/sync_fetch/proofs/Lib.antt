@@ -4,3 +4,4 @@ pub mod Fetched
 pub mod Single
 pub mod Serving
 pub mod Owed
+pub mod States

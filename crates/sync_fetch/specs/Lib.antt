@@ -1,3 +1,4 @@
 pub mod Exchange
 pub mod Told
 pub mod Served
+pub mod States

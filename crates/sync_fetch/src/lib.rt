@@ -1,4 +1,4 @@
-//! Asking a peer what there is to sync to.
+//! Asking a peer what there is to sync to, and for a log without its operations.
 //!
 //! ```text
 //! a request --Machine::submit_*--> frame --Link::send--> the peer
@@ -7,13 +7,17 @@
 //! ```
 //!
 //! One request is sent, and frames are taken until one holds the message under its number. Messages under
-//! other numbers are strays, and only so many are let through. The answer isn't proved by anything: what is
-//! fetched afterwards is proved against it.
+//! other numbers are strays, and only so many are let through. A target isn't proved by anything: what is
+//! fetched afterwards is proved against it. A state is, by the root of its target.
 #![tactic(auto)]
 
 mod exchange;
+mod fault;
+mod state;
 mod target;
 #[cfg(test)]
 mod tests;
 
+pub use fault::StateFault;
+pub use state::fetch_compact;
 pub use target::{fetch_compact_target, fetch_target};

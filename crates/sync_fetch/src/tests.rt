@@ -8,6 +8,8 @@ use std::alloc::Global;
 use sync_client::SyncFault;
 use sync_net::{Generator, Link, LinkError, Machine};
 
+mod states;
+
 /// A link that takes all and gives these bytes, one at a time, and then the end.
 #[derive(Drop)]
 struct Canned {
