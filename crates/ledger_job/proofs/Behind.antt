@@ -1,15 +1,15 @@
 -- What the lines so far say, with one line more.
-use Rattle.std.proofs.Common.{◌≡◌, Bool, true, false, ◌||◌, List, [], ◌∷◌, ◌++◌, Some, None, Option, is_some, unwrap_or, refl, sym, ◌∙◌, ap, append-nil, append_assoc}
+use Rattle.std.proofs.Common.{◌≡◌, Bool, true, false, ◌||◌, List, [], ◌∷◌, ◌++◌, Some, None, Option, unwrap_or, refl, sym, ◌∙◌, ap, append-nil, append_assoc}
 use Rattle.std.proofs.lemmas.List.Elements.{filter_map-append}
 use Rattle.std.proofs.lemmas.List.Folds.{list_any-append}
 use Rattle.std.specs.List.{filter_map, last_or, list_any}
-use Rattle.ledger_job.specs.Gathered.{Seen, Stands, gathered_after, blocks_from, open_block, with_round}
-use Rattle.ledger_job.specs.Jobs.{begins, section_after, has_limits, is_limits, limits_in, open_in, fits, is_in_rounds, takes_payments, payments_of, rounds_of, blocks_of}
-use Rattle.ledger_job.specs.declared.block.Block.{Block}
+use Rattle.ledger_job.specs.Gathered.{Seen, Stands, before_next, gathered_after, blocks_from, open_block, with_round}
+use Rattle.ledger_job.specs.Jobs.{begins, section_after, has_limits, is_limits, has_target, is_target, limits_in, open_in, target_in, answer_in, payments_of, rounds_of, blocks_of}
+use Rattle.ledger_job.specs.Places.{fits, is_in_rounds, takes_payments}
+use Rattle.ledger_job.specs.declared.kind.JobKind.{JobKind}
 use Rattle.ledger_job.specs.declared.block.Block.TheVariants.{Body as BodyOf, Rounds as RoundsOf}
 use Rattle.ledger_job.specs.declared.line.Line.{Line}
-use Rattle.ledger_job.specs.declared.line.Line.TheVariants.{Skipped, Open, Limits, Body, Rounds, Round, Pay}
-use Rattle.ledger_job.specs.Bounds.{LimitsView}
+use Rattle.ledger_job.specs.declared.line.Line.TheVariants.{Skipped, Open, Target as TargetLine, Update, Limits, Body, Rounds, Round, Pay}
 use Rattle.ledger_job.specs.declared.payment.Payment.{Payment}
 use Rattle.ledger_job.specs.declared.place.Section.{Section}
 use Rattle.ledger_job.specs.declared.place.Section.TheVariants.{Opening, InBody, InRounds, InRound}
@@ -42,19 +42,33 @@ or_all : (a b : Bool) → b ≡ true → (a || (b || false)) ≡ true
 or_all true b e = refl
 or_all false b e = rw e refl
 
+any_kept : (p : Line → Bool) (lines : List Line) (line : Line) → p line ≡ false → list_any p lines ≡ list_any p (lines ++ line ∷ [])
+any_kept p lines line e = sym (list_any-append p lines (line ∷ []) ∙ or_nothing (list_any p lines) (p line) e)
+
+any_set : (p : Line → Bool) (lines : List Line) (line : Line) → p line ≡ true → true ≡ list_any p (lines ++ line ∷ [])
+any_set p lines line e = sym (list_any-append p lines (line ∷ []) ∙ or_all (list_any p lines) (p line) e)
+
 limited_kept : (lines : List Line) (line : Line) → is_limits line ≡ false → has_limits lines ≡ has_limits (lines ++ line ∷ [])
 unfolding has_limits
-limited_kept lines line e = sym (list_any-append is_limits lines (line ∷ []) ∙ or_nothing (list_any is_limits lines) (is_limits line) e)
+limited_kept lines line e = any_kept is_limits lines line e
 
 limited_set : (lines : List Line) (line : Line) → is_limits line ≡ true → true ≡ has_limits (lines ++ line ∷ [])
 unfolding has_limits
-limited_set lines line e = sym (list_any-append is_limits lines (line ∷ []) ∙ or_all (list_any is_limits lines) (is_limits line) e)
+limited_set lines line e = any_set is_limits lines line e
 
-limits_kept : (lines : List Line) (line : Line) → filter_map limits_in (line ∷ []) ≡ [] → last_or None (filter_map limits_in lines) ≡ last_or None (filter_map limits_in (lines ++ line ∷ []))
-limits_kept lines line e = sym (ap (last_or None) (none_more limits_in lines line e))
+targeted_kept : (lines : List Line) (line : Line) → is_target line ≡ false → has_target lines ≡ has_target (lines ++ line ∷ [])
+unfolding has_target
+targeted_kept lines line e = any_kept is_target lines line e
 
-limits_set : (lines : List Line) (line : Line) (limits : LimitsView) → filter_map limits_in (line ∷ []) ≡ limits ∷ [] → Some limits ≡ last_or None (filter_map limits_in (lines ++ line ∷ []))
-limits_set lines line limits e = sym (ap (last_or None) (one_more limits_in lines line limits e) ∙ last_push None (filter_map limits_in lines) limits)
+targeted_set : (lines : List Line) (line : Line) → is_target line ≡ true → true ≡ has_target (lines ++ line ∷ [])
+unfolding has_target
+targeted_set lines line e = any_set is_target lines line e
+
+last_kept : {B : Type 0} (f : Line → Option B) (lines : List Line) (line : Line) → filter_map f (line ∷ []) ≡ [] → last_or None (filter_map f lines) ≡ last_or None (filter_map f (lines ++ line ∷ []))
+last_kept f lines line e = sym (ap (last_or None) (none_more f lines line e))
+
+last_set : {B : Type 0} (f : Line → Option B) (lines : List Line) (line : Line) (x : B) → filter_map f (line ∷ []) ≡ x ∷ [] → Some x ≡ last_or None (filter_map f (lines ++ line ∷ []))
+last_set f lines line x e = sym (ap (last_or None) (one_more f lines line x e) ∙ last_push None (filter_map f lines) x)
 
 -- ---- blocks
 
@@ -103,54 +117,95 @@ begun s more p r = ap (λ l. s.blocks ++ l) (ended s.section s.rounds s.payments
 
 -- ---- one line more
 
-pub stands_after : (s : Seen) (lines : List Line) (line : Line) → fits s.section (is_some s.limits) line ≡ true → Stands s lines → Stands (gathered_after s line) (lines ++ line ∷ [])
-stands_after s lines Skipped f h = record {
+pub stands_after : (kind : JobKind) (s : Seen) (lines : List Line) (line : Line) → fits (before_next kind s) line ≡ true → Stands s lines → Stands (gathered_after s line) (lines ++ line ∷ [])
+stands_after kind s lines Skipped f h = record {
   section = h.section ∙ section_kept lines Skipped refl;
   limited = h.limited ∙ limited_kept lines Skipped refl;
-  limits = h.limits ∙ limits_kept lines Skipped refl;
+  targeted = h.targeted ∙ targeted_kept lines Skipped refl;
+  limits = h.limits ∙ last_kept limits_in lines Skipped refl;
   opens = h.opens ∙ sym (none_more open_in lines Skipped refl);
+  target = h.target ∙ last_kept target_in lines Skipped refl;
+  updates = h.updates ∙ sym (none_more answer_in lines Skipped refl);
   blocks = λ more. behind s lines Skipped h more ∙ ap (λ l. s.blocks ++ l) (passing s.section s.rounds s.payments Skipped more refl refl refl);
 }
-stands_after s lines (Open account) f h = record {
+stands_after kind s lines (Open account) f h = record {
   section = h.section ∙ section_kept lines (Open account) refl;
   limited = h.limited ∙ limited_kept lines (Open account) refl;
-  limits = h.limits ∙ limits_kept lines (Open account) refl;
+  targeted = h.targeted ∙ targeted_kept lines (Open account) refl;
+  limits = h.limits ∙ last_kept limits_in lines (Open account) refl;
   opens = ap (λ l. l ++ account ∷ []) h.opens ∙ sym (one_more open_in lines (Open account) account refl);
+  target = h.target ∙ last_kept target_in lines (Open account) refl;
+  updates = h.updates ∙ sym (none_more answer_in lines (Open account) refl);
   blocks = λ more. behind s lines (Open account) h more ∙ ap (λ l. s.blocks ++ l) (passing s.section s.rounds s.payments (Open account) more refl refl refl);
 }
-stands_after s lines (Limits limits) f h = record {
+stands_after kind s lines (TargetLine target) f h = record {
+  section = h.section ∙ section_kept lines (TargetLine target) refl;
+  limited = h.limited ∙ limited_kept lines (TargetLine target) refl;
+  targeted = targeted_set lines (TargetLine target) refl;
+  limits = h.limits ∙ last_kept limits_in lines (TargetLine target) refl;
+  opens = h.opens ∙ sym (none_more open_in lines (TargetLine target) refl);
+  target = last_set target_in lines (TargetLine target) target refl;
+  updates = h.updates ∙ sym (none_more answer_in lines (TargetLine target) refl);
+  blocks = λ more. behind s lines (TargetLine target) h more ∙ ap (λ l. s.blocks ++ l) (passing s.section s.rounds s.payments (TargetLine target) more refl refl refl);
+}
+stands_after kind s lines (Update target) f h = record {
+  section = h.section ∙ section_kept lines (Update target) refl;
+  limited = h.limited ∙ limited_kept lines (Update target) refl;
+  targeted = h.targeted ∙ targeted_kept lines (Update target) refl;
+  limits = h.limits ∙ last_kept limits_in lines (Update target) refl;
+  opens = h.opens ∙ sym (none_more open_in lines (Update target) refl);
+  target = h.target ∙ last_kept target_in lines (Update target) refl;
+  updates = ap (λ l. l ++ Some target ∷ []) h.updates ∙ sym (one_more answer_in lines (Update target) (Some target) refl);
+  blocks = λ more. behind s lines (Update target) h more ∙ ap (λ l. s.blocks ++ l) (passing s.section s.rounds s.payments (Update target) more refl refl refl);
+}
+stands_after kind s lines (Limits limits) f h = record {
   section = h.section ∙ section_kept lines (Limits limits) refl;
   limited = limited_set lines (Limits limits) refl;
-  limits = limits_set lines (Limits limits) limits refl;
+  targeted = h.targeted ∙ targeted_kept lines (Limits limits) refl;
+  limits = last_set limits_in lines (Limits limits) limits refl;
   opens = h.opens ∙ sym (none_more open_in lines (Limits limits) refl);
+  target = h.target ∙ last_kept target_in lines (Limits limits) refl;
+  updates = h.updates ∙ sym (none_more answer_in lines (Limits limits) refl);
   blocks = λ more. behind s lines (Limits limits) h more ∙ ap (λ l. s.blocks ++ l) (passing s.section s.rounds s.payments (Limits limits) more refl refl refl);
 }
-stands_after s lines (Pay payment) f h = record {
+stands_after kind s lines (Pay payment) f h = record {
   section = h.section ∙ section_kept lines (Pay payment) refl;
   limited = h.limited ∙ limited_kept lines (Pay payment) refl;
-  limits = h.limits ∙ limits_kept lines (Pay payment) refl;
+  targeted = h.targeted ∙ targeted_kept lines (Pay payment) refl;
+  limits = h.limits ∙ last_kept limits_in lines (Pay payment) refl;
   opens = h.opens ∙ sym (none_more open_in lines (Pay payment) refl);
+  target = h.target ∙ last_kept target_in lines (Pay payment) refl;
+  updates = h.updates ∙ sym (none_more answer_in lines (Pay payment) refl);
   blocks = λ more. behind s lines (Pay payment) h more ∙ ap (λ l. s.blocks ++ l) (paid s.section s.rounds s.payments payment more f);
 }
-stands_after s lines Body f h = record {
+stands_after kind s lines Body f h = record {
   section = section_begun lines Body InBody refl;
   limited = h.limited ∙ limited_kept lines Body refl;
-  limits = h.limits ∙ limits_kept lines Body refl;
+  targeted = h.targeted ∙ targeted_kept lines Body refl;
+  limits = h.limits ∙ last_kept limits_in lines Body refl;
   opens = h.opens ∙ sym (none_more open_in lines Body refl);
+  target = h.target ∙ last_kept target_in lines Body refl;
+  updates = h.updates ∙ sym (none_more answer_in lines Body refl);
   blocks = λ more. behind s lines Body h more ∙ begun s (Body ∷ more) refl refl;
 }
-stands_after s lines Rounds f h = record {
+stands_after kind s lines Rounds f h = record {
   section = section_begun lines Rounds InRounds refl;
   limited = h.limited ∙ limited_kept lines Rounds refl;
-  limits = h.limits ∙ limits_kept lines Rounds refl;
+  targeted = h.targeted ∙ targeted_kept lines Rounds refl;
+  limits = h.limits ∙ last_kept limits_in lines Rounds refl;
   opens = h.opens ∙ sym (none_more open_in lines Rounds refl);
+  target = h.target ∙ last_kept target_in lines Rounds refl;
+  updates = h.updates ∙ sym (none_more answer_in lines Rounds refl);
   blocks = λ more. behind s lines Rounds h more ∙ begun s (Rounds ∷ more) refl refl;
 }
-stands_after s lines Round f h = record {
+stands_after kind s lines Round f h = record {
   section = section_begun lines Round InRound refl;
   limited = h.limited ∙ limited_kept lines Round refl;
-  limits = h.limits ∙ limits_kept lines Round refl;
+  targeted = h.targeted ∙ targeted_kept lines Round refl;
+  limits = h.limits ∙ last_kept limits_in lines Round refl;
   opens = h.opens ∙ sym (none_more open_in lines Round refl);
+  target = h.target ∙ last_kept target_in lines Round refl;
+  updates = h.updates ∙ sym (none_more answer_in lines Round refl);
   blocks = λ more. behind s lines Round h more ∙ ap (λ l. s.blocks ++ l) (rounded s.section s.rounds s.payments more f);
 }
 

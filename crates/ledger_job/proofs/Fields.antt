@@ -1,5 +1,5 @@
 -- What the fields of a line say, where they were taken one after another.
-use Rattle.std.proofs.Common.{◌≡◌, ℕ, List, [], ◌∷◌, ◌==◌, Some, None, Option, Bor, refl, sym, ◌∙◌, ap}
+use Rattle.std.proofs.Common.{◌≡◌, ℕ, List, [], ◌∷◌, ◌==◌, Some, None, Option, Bor, sym, ◌∙◌, ap}
 use Rattle.std.specs.List.{slice_split}
 use Rattle.ledger_job.specs.Lines.{fields_of, line_of_fields}
 use Rattle.ledger_job.specs.Parts.{parts_left, Takes}

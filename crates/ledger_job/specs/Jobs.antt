@@ -1,16 +1,20 @@
 -- The lines of a job in their order: which of them offends first, and what they ask for.
-use Rattle.std.specs.Prelude.{ℕ, ◌+◌, ◌&&◌, Bool, true, false, not, List, [], ◌∷◌, ◌++◌, Some, None, Result, Ok, Err, map, option_map, unwrap_or, if◌then◌else◌}
+use Rattle.std.specs.Prelude.{ℕ, ◌+◌, Bool, true, false, List, [], ◌∷◌, ◌++◌, Some, None, Result, Ok, Err, length, map, option_map, unwrap_or, if◌then◌else◌}
 use Rattle.std.specs.declared.option.Option.{Option}
 use Rattle.std.specs.List.{filter_map, last_or, list_any}
+use Rattle.ledger_log.specs.declared.target.Target.{Target}
 use Rattle.ledger_job.specs.Bounds.{LimitsView}
 use Rattle.ledger_job.specs.Lines.{lines_of, line_of}
+use Rattle.ledger_job.specs.Places.{fits, lacks_target}
 use Rattle.ledger_job.specs.declared.block.Block.{Block}
 use Rattle.ledger_job.specs.declared.block.Block.TheVariants.{Body as BodyOf, Rounds as RoundsOf}
 use Rattle.ledger_job.specs.declared.job.Job.{Job}
+use Rattle.ledger_job.specs.declared.kind.JobKind.{JobKind}
 use Rattle.ledger_job.specs.declared.line.Line.{Line}
-use Rattle.ledger_job.specs.declared.line.Line.TheVariants.{Skipped, Open, Limits, Body, Rounds, Round, Pay}
+use Rattle.ledger_job.specs.declared.line.Line.TheVariants.{Skipped, Open, Target as TargetLine, Update, Limits, Body, Rounds, Round, Pay}
 use Rattle.ledger_job.specs.declared.line.Open.{Open as Opened}
 use Rattle.ledger_job.specs.declared.payment.Payment.{Payment}
+use Rattle.ledger_job.specs.declared.place.Before.{Before}
 use Rattle.ledger_job.specs.declared.place.Section.{Section}
 use Rattle.ledger_job.specs.declared.place.Section.TheVariants.{Opening, InBody, InRounds, InRound}
 
@@ -18,6 +22,8 @@ use Rattle.ledger_job.specs.declared.place.Section.TheVariants.{Opening, InBody,
 abbrev pub begins : Line → Option Section
 begins Skipped = None
 begins (Open account) = None
+begins (TargetLine target) = None
+begins (Update target) = None
 begins (Limits limits) = None
 begins Body = Some InBody
 begins Rounds = Some InRounds
@@ -37,44 +43,46 @@ is_limits _ = false
 unfoldable pub has_limits : List Line → Bool
 has_limits lines = list_any is_limits lines
 
--- before any block
-abbrev pub is_opening : Section → Bool
-is_opening Opening = true
-is_opening _ = false
+-- a line of a target
+abbrev pub is_target : Line → Bool
+is_target (TargetLine target) = true
+is_target _ = false
 
--- in a block of rounds
-abbrev pub is_in_rounds : Section → Bool
-is_in_rounds InRounds = true
-is_in_rounds InRound = true
-is_in_rounds _ = false
+-- a target stands among these lines
+unfoldable pub has_target : List Line → Bool
+has_target lines = list_any is_target lines
 
--- where a payment may stand
-abbrev pub takes_payments : Section → Bool
-takes_payments InBody = true
-takes_payments InRound = true
-takes_payments _ = false
+-- the answer on a later target that a line names
+abbrev pub answer_in : Line → Option (Option Target)
+answer_in (Update target) = Some (Some target)
+answer_in _ = None
 
--- whether a line may stand in a section, behind limits or not
-abbrev pub fits : Section → Bool → Line → Bool
-fits section limited Skipped = true
-fits section limited (Open account) = is_opening section
-fits section limited (Limits limits) = is_opening section && not limited
-fits section limited Body = true
-fits section limited Rounds = true
-fits section limited Round = is_in_rounds section
-fits section limited (Pay payment) = takes_payments section
+-- what stands before the line behind these
+abbrev pub before_line : JobKind → List Line → Before
+before_line kind lines = record {
+  kind = kind;
+  section = section_after lines;
+  limited = has_limits lines;
+  targeted = has_target lines;
+  updates = length (filter_map answer_in lines);
+}
 
--- the place, behind the lines `before`, of the first that is no line of a job or stands in a wrong place
-unfoldable pub first_offence : List Line → List (Option Line) → Option ℕ
-first_offence before [] = None
-first_offence before (None ∷ lines) = Some 0
-first_offence before (Some line ∷ lines) =
-    if fits (section_after before) (has_limits before) line then option_map (λ n. n + 1) (first_offence (before ++ line ∷ []) lines) else Some 0
+-- the place, behind the lines `before`, of the first that is no line of a job or stands in a wrong place; where a target is missing, that behind the last line
+unfoldable pub first_offence : JobKind → List Line → List (Option Line) → Option ℕ
+first_offence kind before [] = if lacks_target kind (has_target before) then Some 0 else None
+first_offence kind before (None ∷ lines) = Some 0
+first_offence kind before (Some line ∷ lines) =
+    if fits (before_line kind before) line then option_map (λ n. n + 1) (first_offence kind (before ++ line ∷ []) lines) else Some 0
 
 -- the account that a line opens
 abbrev pub open_in : Line → Option Opened
 open_in (Open account) = Some account
 open_in _ = None
+
+-- the target that a line names
+abbrev pub target_in : Line → Option Target
+target_in (TargetLine target) = Some target
+target_in _ = None
 
 -- the limits that a line sets
 abbrev pub limits_in : Line → Option LimitsView
@@ -91,6 +99,8 @@ payments_of [] = []
 payments_of (Pay payment ∷ lines) = payment ∷ payments_of lines
 payments_of (Skipped ∷ lines) = payments_of lines
 payments_of (Open account ∷ lines) = payments_of lines
+payments_of (TargetLine target ∷ lines) = payments_of lines
+payments_of (Update target ∷ lines) = payments_of lines
 payments_of (Limits limits ∷ lines) = payments_of lines
 payments_of (Body ∷ lines) = []
 payments_of (Rounds ∷ lines) = []
@@ -102,6 +112,8 @@ rounds_of [] = []
 rounds_of (Round ∷ lines) = payments_of lines ∷ rounds_of lines
 rounds_of (Skipped ∷ lines) = rounds_of lines
 rounds_of (Open account ∷ lines) = rounds_of lines
+rounds_of (TargetLine target ∷ lines) = rounds_of lines
+rounds_of (Update target ∷ lines) = rounds_of lines
 rounds_of (Limits limits ∷ lines) = rounds_of lines
 rounds_of (Pay payment ∷ lines) = rounds_of lines
 rounds_of (Body ∷ lines) = []
@@ -115,6 +127,8 @@ blocks_of (Rounds ∷ lines) = RoundsOf (rounds_of lines) ∷ blocks_of lines
 blocks_of (Round ∷ lines) = blocks_of lines
 blocks_of (Skipped ∷ lines) = blocks_of lines
 blocks_of (Open account ∷ lines) = blocks_of lines
+blocks_of (TargetLine target ∷ lines) = blocks_of lines
+blocks_of (Update target ∷ lines) = blocks_of lines
 blocks_of (Limits limits ∷ lines) = blocks_of lines
 blocks_of (Pay payment ∷ lines) = blocks_of lines
 
@@ -122,6 +136,8 @@ blocks_of (Pay payment ∷ lines) = blocks_of lines
 unfoldable pub job_from : List Line → Job
 job_from lines = record {
   opens = filter_map open_in lines;
+  target = last_or None (filter_map target_in lines);
+  updates = filter_map answer_in lines;
   limits = unwrap_or (last_or None (filter_map limits_in lines)) default_limits;
   blocks = blocks_of lines;
 }
@@ -135,6 +151,6 @@ job_or_offence lines (Some n) = Err (n + 1)
 abbrev pub read_lines : List ℕ → List (Option Line)
 read_lines text = map line_of (lines_of text)
 
--- the job of a text, or its least offending line, counted from 1
-unfoldable pub job_of : List ℕ → Result Job ℕ
-job_of text = job_or_offence (filter_map (λ line. line) (read_lines text)) (first_offence [] (read_lines text))
+-- the job of a kind that a text spells, or its least offending line, counted from 1
+unfoldable pub job_of : JobKind → List ℕ → Result Job ℕ
+job_of kind text = job_or_offence (filter_map (λ line. line) (read_lines text)) (first_offence kind [] (read_lines text))

@@ -1,7 +1,10 @@
 pub mod Number
 pub mod Keys
 pub mod Bounds
+pub mod Kinds
+pub mod Ranges
 pub mod Lines
+pub mod Places
 pub mod Jobs
 pub mod Gathered
 pub mod Gathering

@@ -1,13 +1,15 @@
 -- The lines of a job, each by itself.
 use Rattle.std.specs.Prelude.{ℕ, ◌-◌, ◌==◌, Bool, true, List, [], ◌∷◌, Some, None, length, take, slice_index, codes, if◌then◌else◌}
 use Rattle.std.specs.declared.option.Option.{Option}
+use Rattle.ledger_log.specs.declared.target.Target.{Target}
 use Rattle.std.specs.List.{slice_split}
 use Rattle.std.specs.Str.{bytes_eq}
 use Rattle.ledger_job.specs.Number.{number_of}
 use Rattle.ledger_job.specs.Bounds.{in_range}
-use Rattle.ledger_job.specs.Keys.{key_of}
+use Rattle.ledger_job.specs.Keys.{digest_of, key_of}
+use Rattle.ledger_job.specs.Ranges.{target_from}
 use Rattle.ledger_job.specs.declared.line.Line.{Line}
-use Rattle.ledger_job.specs.declared.line.Line.TheVariants.{Skipped, Open, Limits, Body, Rounds, Round, Pay}
+use Rattle.ledger_job.specs.declared.line.Line.TheVariants.{Skipped, Open, Target as TargetLine, Update, Limits, Body, Rounds, Round, Pay}
 
 -- a text without a line feed at its end
 abbrev pub without_end : List ℕ → List ℕ
@@ -49,9 +51,23 @@ abbrev pub open_from : Option (List ℕ) → Option ℕ → Option ℕ → Optio
 open_from (Some key) (Some balance) (Some nonce) = Some (Open (record { key = key; balance = balance; nonce = nonce }))
 open_from _ _ _ = None
 
--- `open KEY BALANCE NONCE`
+-- the target of the peer's log, if it is one
+abbrev pub target_line : Option Target → Option Line
+target_line None = None
+target_line (Some target) = Some (TargetLine target)
+
+-- a later target, if it is one
+abbrev pub update_line : Option Target → Option Line
+update_line None = None
+update_line (Some target) = Some (Update target)
+
+-- `open KEY BALANCE NONCE`, `target ROOT START END` and `update ROOT START END`
 abbrev pub four_words : List ℕ → List ℕ → List ℕ → List ℕ → Option Line
-four_words word key balance nonce = if bytes_eq word (codes "open") then open_from (key_of key) (number_of balance) (number_of nonce) else None
+four_words word first second third =
+    if bytes_eq word (codes "open") then open_from (key_of first) (number_of second) (number_of third)
+    else if bytes_eq word (codes "target") then target_line (target_from (digest_of first) (number_of second) (number_of third))
+    else if bytes_eq word (codes "update") then update_line (target_from (digest_of first) (number_of second) (number_of third))
+    else None
 
 -- a payment: who pays, who is paid, how much, and at which nonce
 abbrev pub pay_from : Option (List ℕ) → Option (List ℕ) → Option ℕ → Option ℕ → Option Line
@@ -67,7 +83,7 @@ five_words word from to amount nonce =
 abbrev pub line_of_fields : List (List ℕ) → Option Line
 line_of_fields (word ∷ []) = one_word word
 line_of_fields (word ∷ batch ∷ outstanding ∷ []) = three_words word batch outstanding
-line_of_fields (word ∷ key ∷ balance ∷ nonce ∷ []) = four_words word key balance nonce
+line_of_fields (word ∷ first ∷ second ∷ third ∷ []) = four_words word first second third
 line_of_fields (word ∷ from ∷ to ∷ amount ∷ nonce ∷ []) = five_words word from to amount nonce
 line_of_fields _ = None
 

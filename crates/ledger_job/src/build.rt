@@ -1,16 +1,19 @@
 //! The lines of a job, gathered one after another: a line that asks for nothing takes no memory.
 ghost use Rattle.std.specs.Prelude.{◌≡◌, [], OnOk, IfOk, None, is_some, unwrap_or};
-ghost use Rattle.ledger_job.specs.Gathered.{seen, in_block, gathered_after, all_blocks, with_round};
-ghost use Rattle.ledger_job.specs.Jobs.{fits, default_limits};
+ghost use Rattle.ledger_job.specs.Gathered.{seen, before_next, in_block, gathered_after, all_blocks, with_round};
+ghost use Rattle.ledger_job.specs.Jobs.{default_limits};
+ghost use Rattle.ledger_job.specs.Places.{fits, lacks_target};
 ghost use Rattle.ledger_job.specs.declared.place.Section.TheVariants.{Opening, InRound};
 
 use crate::block::Block;
 use crate::job::Job;
+use crate::kind::JobKind;
 use crate::limits::JobLimits;
 use crate::line::{Line, Open};
 use crate::payment::Payment;
-use crate::place::{Section, fits};
+use crate::place::{Before, Section};
 use ledger_codec::{List, OutOfMemory};
+use ledger_log::Target;
 use std::alloc::Global;
 use std::mem;
 
@@ -19,6 +22,8 @@ use std::mem;
 #[derive(Drop)]
 pub(crate) struct Gathered {
     pub opens: Vec<Open>,
+    pub target: Option<Target>,
+    pub updates: Vec<Option<Target>>,
     pub limits: Option<JobLimits>,
     pub section: Section,
     pub payments: Vec<Payment>,
@@ -30,10 +35,12 @@ impl Gathered {
     /// No line yet.
     pub fn new(alloc: Global) -> Gathered
         ensures { seen result
-            ≡ record { opens = []; limits = None; section = Opening; payments = []; rounds = []; blocks = [] } }
+            ≡ record { opens = []; target = None; updates = []; limits = None; section = Opening; payments = []; rounds = []; blocks = [] } }
     {
         Gathered {
             opens: Vec::new(alloc),
+            target: None,
+            updates: Vec::new(alloc),
             limits: None,
             section: Section::Opening,
             payments: Vec::new(alloc),
@@ -42,11 +49,31 @@ impl Gathered {
         }
     }
 
-    /// Whether a line may stand behind those so far.
-    pub fn takes(&self, line: &Line) -> bool
-        ensures { result ≡ fits self.now.section (is_some self.now.limits) line.now }
+    /// What decides whether one more line may stand here.
+    fn before_next(&self, kind: JobKind) -> Before
+        ensures { result ≡ before_next kind (seen self.now) }
     {
-        fits(self.section, self.limits.is_some(), line)
+        Before {
+            kind,
+            section: self.section,
+            limited: self.limits.is_some(),
+            targeted: self.target.is_some(),
+            updates: self.updates.len(),
+        }
+    }
+
+    /// Whether a line may stand behind those so far.
+    pub fn takes(&self, kind: JobKind, line: &Line) -> bool
+        ensures { result ≡ fits (before_next kind (seen self.now)) line.now }
+    {
+        self.before_next(kind).fits(line)
+    }
+
+    /// Whether the lines so far make no whole job, since none of them is the target that its kind wants.
+    pub fn lacks_target(&self, kind: JobKind) -> bool
+        ensures { result ≡ lacks_target kind (is_some self.now.target) }
+    {
+        kind.is_follow() && self.target.is_none()
     }
 
     /// Takes up one more line.
@@ -57,6 +84,14 @@ impl Gathered {
             Line::Skipped => Ok(()),
             Line::Open(account) => {
                 self.opens.push(account)?;
+                Ok(())
+            }
+            Line::Target(target) => {
+                self.target = Some(target);
+                Ok(())
+            }
+            Line::Update(target) => {
+                self.updates.push(Some(target))?;
                 Ok(())
             }
             Line::Limits(limits) => {
@@ -103,6 +138,8 @@ impl Gathered {
         ensures rounds { OnOk result
             (self.new.rounds.items ≡ with_round self.old.section self.old.rounds.items self.old.payments.items) }
         ensures opens { self.new.opens ≡ self.old.opens }
+        ensures target { self.new.target ≡ self.old.target }
+        ensures updates { self.new.updates ≡ self.old.updates }
         ensures limits { self.new.limits ≡ self.old.limits }
         ensures blocks { self.new.blocks ≡ self.old.blocks }
     {
@@ -120,6 +157,8 @@ impl Gathered {
     fn end_block(&mut self, alloc: Global) -> Result<(), OutOfMemory>
         ensures blocks { OnOk result (self.new.blocks.items ≡ all_blocks (seen self.old)) }
         ensures opens { OnOk result (self.new.opens.items ≡ self.old.opens.items) }
+        ensures target { OnOk result (self.new.target ≡ self.old.target) }
+        ensures updates { OnOk result (self.new.updates.items ≡ self.old.updates.items) }
         ensures limits { OnOk result (self.new.limits ≡ self.old.limits) }
     {
         match self.section {
@@ -141,6 +180,8 @@ impl Gathered {
     /// The job of all lines. Where none sets limits, 50 operations are asked for at a time, and one request is out.
     pub fn into_job(mut self, alloc: Global) -> Result<Job, OutOfMemory>
         ensures opens { IfOk result (λ job. job.opens ≡ self.opens.items) }
+        ensures target { IfOk result (λ job. job.target ≡ self.target) }
+        ensures updates { IfOk result (λ job. job.updates ≡ self.updates.items) }
         ensures limits { IfOk result (λ job. job.limits ≡ unwrap_or self.limits default_limits) }
         ensures blocks { IfOk result (λ job. job.blocks ≡ all_blocks (seen self)) }
     {
@@ -148,6 +189,8 @@ impl Gathered {
         let limits = self.limits.unwrap_or(JobLimits::usual());
         Ok(Job {
             opens: List::from_vec(self.opens),
+            target: self.target,
+            updates: List::from_vec(self.updates),
             limits,
             blocks: List::from_vec(self.blocks),
         })

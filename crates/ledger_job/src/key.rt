@@ -66,7 +66,7 @@ fn parse_hex_key(text: &[u8]) -> Option<Key>
 
 /// The 32 bytes that 64 hexadecimal digits of either case spell.
 #[tactic(auto, unfolding(crate::specs::Keys::digest_of))]
-fn parse_digest(digits: &[u8]) -> Option<Key>
+pub(crate) fn parse_digest(digits: &[u8]) -> Option<Key>
     ensures { result ≡ digest_of digits.now }
 {
     let mut bytes = [0u8; 32];

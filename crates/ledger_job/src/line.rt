@@ -1,13 +1,17 @@
 //! The lines of a job, read one by one.
 ghost use Rattle.std.specs.Prelude.{◌≡◌};
-ghost use Rattle.ledger_job.specs.Lines.{fields_of, is_skipped, open_from, limits_from, pay_from, one_word, three_words, four_words, five_words, line_of_fields, line_of};
+ghost use Rattle.ledger_job.specs.Keys.{digest_of};
+ghost use Rattle.ledger_job.specs.Number.{number_of};
+ghost use Rattle.ledger_job.specs.Ranges.{target_from};
+ghost use Rattle.ledger_job.specs.Lines.{fields_of, is_skipped, open_from, target_line, update_line, limits_from, pay_from, one_word, three_words, four_words, five_words, line_of_fields, line_of};
 
-use crate::key::parse_key;
+use crate::key::{parse_digest, parse_key};
 use crate::limits::JobLimits;
 use crate::number::parse_number;
 use crate::payment::Payment;
 use crate::split::next_part;
-use ledger_log::Key;
+use crate::target::target_from;
+use ledger_log::{Key, Target};
 
 /// An account that the served log opens.
 #[derive(Clone, Copy, Debug, PartialEq, Eq)]
@@ -27,6 +31,10 @@ pub enum Line {
     Skipped,
     /// An account of the served log.
     Open(Open),
+    /// The range of the peer's log.
+    Target(Target),
+    /// A later target.
+    Update(Target),
     /// How the log is fetched.
     Limits(JobLimits),
     /// A body begins.
@@ -114,14 +122,37 @@ fn limits_from(batch: Option<u64>, outstanding: Option<u64>) -> Option<Line>
     Some(Line::Limits(limits))
 }
 
-fn four_words(word: &[u8], key: &[u8], balance: &[u8], nonce: &[u8]) -> Option<Line>
-    ensures { result ≡ four_words word.now key.now balance.now nonce.now }
+fn four_words(word: &[u8], first: &[u8], second: &[u8], third: &[u8]) -> Option<Line>
+    ensures { result ≡ four_words word.now first.now second.now third.now }
 {
     if *word == *b"open".as_slice() {
-        open_from(parse_key(key), parse_number(balance), parse_number(nonce))
+        open_from(parse_key(first), parse_number(second), parse_number(third))
+    } else if *word == *b"target".as_slice() {
+        target_line(parse_target(first, second, third))
+    } else if *word == *b"update".as_slice() {
+        update_line(parse_target(first, second, third))
     } else {
         None
     }
+}
+
+/// The target that a root, a start and an end spell.
+fn parse_target(root: &[u8], start: &[u8], end: &[u8]) -> Option<Target>
+    ensures { result ≡ target_from (digest_of root.now) (number_of start.now) (number_of end.now) }
+{
+    target_from(parse_digest(root), parse_number(start), parse_number(end))
+}
+
+fn target_line(target: Option<Target>) -> Option<Line>
+    ensures { result ≡ target_line target }
+{
+    Some(Line::Target(target?))
+}
+
+fn update_line(target: Option<Target>) -> Option<Line>
+    ensures { result ≡ update_line target }
+{
+    Some(Line::Update(target?))
 }
 
 fn open_from(key: Option<Key>, balance: Option<u64>, nonce: Option<u64>) -> Option<Line>

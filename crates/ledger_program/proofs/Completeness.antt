@@ -4,6 +4,7 @@ use Rattle.std.specs.Prelude.{IfSome, ⊤}
 use Rattle.std.specs.List.{AllByRecursion}
 use Rattle.ledger_codec.specs.Causes.{Rose}
 use Rattle.ledger_job.specs.declared.job.Job.{Job}
+use Rattle.ledger_job.specs.declared.kind.JobKind.TheVariants.{Local}
 use Rattle.ledger_job.specs.declared.line.Open.{Open}
 use Rattle.ledger_job.specs.declared.payment.Payment.{Payment}
 use Rattle.ledger_job.specs.Payments.{payment_changes}
@@ -53,7 +54,7 @@ module _ (text : List ℕ) (settling : IsSettling text) where
       never_rejected payments sequenced_value_laws settling.job.blocks settling.verdicts (served settling.job.opens) settling.all (served_written settling.job.opens) settling.runs
       block f.2.before.verdicts f.2.before.all f.2.batch rejection f.2.before.runs f.2.at f.2.offence
   no_fault target (LogFull block) is f b =
-      let few = job_short text settling.job settling.is_job.is in
+      let few = job_short Local text settling.job settling.is_job.is in
       never_full payments two_changes 0 (served settling.job.opens) settling.job.blocks block (room (length (served settling.job.opens)) (room_for settling.job.blocks) (length text) few settling.is_job.within)
       (subst (λ n. IsFull payments n (served settling.job.opens) settling.job.blocks block) is.start f.2)
     where

@@ -6,8 +6,9 @@ use Rattle.std.proofs.lemmas.List.{length-map}
 use Rattle.ledger_job.specs.Jobs.{job_of, job_from, job_or_offence, read_lines, first_offence, open_in, payments_of, rounds_of, blocks_of}
 use Rattle.ledger_job.specs.Lines.{lines_of, line_of, without_end}
 use Rattle.ledger_job.specs.declared.job.Job.{Job}
+use Rattle.ledger_job.specs.declared.kind.JobKind.{JobKind}
 use Rattle.ledger_job.specs.declared.line.Line.{Line}
-use Rattle.ledger_job.specs.declared.line.Line.TheVariants.{Skipped, Open, Limits, Body, Rounds, Round, Pay}
+use Rattle.ledger_job.specs.declared.line.Line.TheVariants.{Skipped, Open, Target as TargetLine, Update, Limits, Body, Rounds, Round, Pay}
 use Rattle.ledger_job.specs.declared.line.Open.{Open as Opened}
 use Rattle.ledger_log.specs.declared.any.AnyOp.TheVariants.{CommitFloor}
 use Rattle.ledger_program.specs.Served.{served, update_of}
@@ -51,6 +52,8 @@ blocks_short : (lines : List Line) → room_for (blocks_of lines) + (2 * length 
 blocks_short [] = omega arith
 blocks_short (Skipped ∷ lines) = omega (arith, blocks_short lines)
 blocks_short (Open account ∷ lines) = omega (arith, blocks_short lines)
+blocks_short (TargetLine target ∷ lines) = omega (arith, blocks_short lines)
+blocks_short (Update target ∷ lines) = omega (arith, blocks_short lines)
 blocks_short (Limits limits ∷ lines) = omega (arith, blocks_short lines)
 blocks_short (Body ∷ lines) = omega (arith, blocks_short lines)
 blocks_short (Rounds ∷ lines) = omega (arith, blocks_short lines)
@@ -69,9 +72,9 @@ same_job : (i j : Job) (r : Result Job ℕ) → r ≡ Ok i → r ≡ Ok j → i 
 same_job i j r e f = cc
 
 -- all operations of a job's log are few
-pub job_short : (text : List ℕ) (job : Job) → job_of text ≡ Ok job → length (served job.opens) + room_for job.blocks ≤ 3 * length text + 5
+pub job_short : (kind : JobKind) (text : List ℕ) (job : Job) → job_of kind text ≡ Ok job → length (served job.opens) + room_for job.blocks ≤ 3 * length text + 5
 unfolding job_of
-job_short text job h = by (first_offence [] (read_lines text)) h
+job_short kind text job h = by (first_offence kind [] (read_lines text)) h
   where
     lines : List Line
     lines = filter_map (λ line. line) (read_lines text)

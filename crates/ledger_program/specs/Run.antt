@@ -5,6 +5,7 @@ use Rattle.std.specs.Io.KnownBytes.{Appends}
 use Rattle.ledger_job.specs.Jobs.{job_of}
 use Rattle.ledger_job.specs.declared.block.BlockVerdicts.{BlockVerdicts}
 use Rattle.ledger_job.specs.declared.job.Job.{Job}
+use Rattle.ledger_job.specs.declared.kind.JobKind.TheVariants.{Local}
 use Rattle.ledger_job.specs.declared.payment.Payment.{Payment}
 use Rattle.ledger_job.specs.Payments.{payment_changes}
 use Rattle.ledger_codec.specs.Causes.{Rose}
@@ -47,12 +48,12 @@ payments = meaning payment_changes sequenced_same sequenced_rules sequenced_valu
 -- the text is this job
 pub record IsJob (text : List ℕ) (job : Job) : Type 0 where
   pub within : length text ≤ max_job
-  pub is : job_of text ≡ Ok job
+  pub is : job_of Local text ≡ Ok job
 
 -- this line of the text is its least offending one
 pub record Offends (text : List ℕ) (line : ℕ) : Type 0 where
   pub within : length text ≤ max_job
-  pub is : job_of text ≡ Err line
+  pub is : job_of Local text ≡ Err line
 
 -- the target is that of the log that the job serves
 pub record IsServed (job : Job) (target : Target) : Type 0 where

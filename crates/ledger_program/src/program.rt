@@ -14,7 +14,7 @@ use crate::reading::{ReadFault, read_all};
 use crate::report_text::report_text;
 use crate::writing::write_all;
 use ledger_codec::{Sink, SinkError, Source};
-use ledger_job::{Job, JobFault, parse_job};
+use ledger_job::{Job, JobFault, JobKind, parse_job};
 use ledger_settling::Report;
 use ledger_strategy::Sequential;
 use ledger_transfers::Sequenced;
@@ -50,7 +50,7 @@ fn read_job<S: Source>(alloc: Global, source: &mut S) -> Result<Job, RunFault>
         Err(ReadFault::TooLarge) => return Err(RunFault::JobTooLarge),
         Err(ReadFault::OutOfMemory) => return Err(RunFault::OutOfMemory),
     };
-    match parse_job(alloc, &text) {
+    match parse_job(alloc, JobKind::Local, &text) {
         Ok(job) => Ok(job),
         Err(JobFault::BadLine(line)) => Err(RunFault::BadJob { line }),
         Err(JobFault::OutOfMemory) => Err(RunFault::OutOfMemory),

@@ -1,5 +1,4 @@
-use Rattle.std.proofs.Common.{◌≡◌, ◌∙◌, ap, sym, refl, [], ◌∷◌, List, ℕ, Some}
-use Rattle.ledger_job.specs.Parts.{parts_left}
+use Rattle.std.proofs.Common.{◌∙◌, ap, refl, ◌∷◌, Some}
 use Rattle.ledger_job.proofs.Fields.{taken, all_taken, said_by}
 use Rattle.ledger_job.proofs.line.line_of_fields.Goals as goal
 
