@@ -11,7 +11,7 @@ use Rattle.ledger_program.specs.Run.{WriteFails, Wrote, IsEarly, LineWent, LineO
 use Rattle.ledger_program.specs.Text.{text_of}
 use Rattle.ledger_program.specs.Writing.{AppendsFront, Writes}
 use Rattle.ledger_program.specs.declared.outcome.RunFault.{RunFault}
-use Rattle.ledger_program.specs.declared.outcome.RunFault.TheVariants.{Usage, BadJob, JobRead, JobTooLarge, Dial, Follow, Output, OutOfMemory}
+use Rattle.ledger_program.specs.declared.outcome.RunFault.TheVariants.{Usage, BadJob, JobRead, JobTooLarge, Dial, Follow as RunFollow, Output, OutOfMemory}
 use Rattle.ledger_settling.specs.declared.report.Report.{Report}
 use Rattle.ledger_transfers.specs.declared.sequenced.Sequenced.{Sequenced}
 
@@ -41,7 +41,7 @@ wrote_late a b c report (BadJob line) before now w l = absurd w
 wrote_late a b c report JobRead before now w l = absurd w
 wrote_late a b c report JobTooLarge before now w l = absurd w
 wrote_late a b c report Dial before now w l = absurd w
-wrote_late a b c report (Follow fault) before now w l = absurd w
+wrote_late a b c report (RunFollow fault) before now w l = absurd w
 wrote_late a b c report Output before now w l = (w.0.0, nothing_more a b c (take w.0.0 (text_of report)) w.0.1 l)
 wrote_late a b c report OutOfMemory before now w l = record {
   front = w.0;
@@ -56,7 +56,7 @@ early_line grows a b x y (BadJob line) e w = w
 early_line grows a b x y JobRead e w = w
 early_line grows a b x y JobTooLarge e w = w
 early_line grows a b x y Dial e w = w
-early_line grows a b x y (Follow fault) e w = w
+early_line grows a b x y (RunFollow fault) e w = w
 early_line grows a b x y Output e w = tt
 early_line grows a b x y OutOfMemory e (inl w) = inl (0, w)
 early_line grows a b x y OutOfMemory e (inr w) = inr w
@@ -68,7 +68,7 @@ late_line grows a b c x y z report (BadJob line) w h l = absurd w
 late_line grows a b c x y z report JobRead w h l = absurd w
 late_line grows a b c x y z report JobTooLarge w h l = absurd w
 late_line grows a b c x y z report Dial w h l = absurd w
-late_line grows a b c x y z report (Follow fault) w h l = absurd w
+late_line grows a b c x y z report (RunFollow fault) w h l = absurd w
 late_line grows a b c x y z report Output w h l = tt
 late_line grows a b c x y z report OutOfMemory w h (inl l) = inl (w.0, Appends-trans a b c (take w.0 (text_of report)) (line_of OutOfMemory) w.1 l)
 late_line grows a b c x y z report OutOfMemory w h (inr (inl l)) = inr (inl (rose_before x y z h l))

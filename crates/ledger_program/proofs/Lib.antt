@@ -7,5 +7,6 @@ pub mod Names
 pub mod Lines
 pub mod Locals
 pub mod Links
+pub mod Peers
 pub mod Rooms
 pub mod Completeness

@@ -14,7 +14,8 @@ use Rattle.ledger_log.specs.declared.target.Target.{Target}
 use Rattle.ledger_merkle.specs.Tree.{root, grow, part_root}
 use Rattle.ledger_program.proofs.Causes.{local_fails}
 use Rattle.ledger_program.specs.Follow.{FollowsLog, Foretold, IsSteady, range_in}
-use Rattle.ledger_program.specs.Run.{payments, IsServed, ReportsJob, LocalFails, SpansLog, run_fault_of}
+use Rattle.ledger_program.specs.Peer.{payments}
+use Rattle.ledger_program.specs.Run.{IsServed, ReportsJob, LocalFails, SpansLog, run_fault_of}
 use Rattle.ledger_program.specs.Served.{served}
 use Rattle.ledger_program.specs.declared.fault.Fault.{Fault}
 use Rattle.ledger_program.specs.declared.fault.Fault.TheVariants as faults

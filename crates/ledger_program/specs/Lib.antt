@@ -1,6 +1,8 @@
 pub mod ErrorLines
 pub mod Faults
 pub mod Follow
+pub mod Forms
+pub mod Peer
 pub mod Reading
 pub mod Run
 pub mod Served

@@ -1,20 +1,18 @@
 -- The words of the program, and what it answers.
-use Rattle.std.specs.Prelude.{◌≡◌, ◌≤◌, ℕ, Bool, true, false, List, [], ◌∷◌, ◌++◌, Option, Some, None, Ok, Err, length, codes, take, IfSome, IsTrue, ◌⊎◌, ⊤}
-use Rattle.std.specs.Str.{bytes_eq}
+use Rattle.std.specs.Prelude.{◌≡◌, ◌≤◌, ℕ, Bool, true, false, List, [], ◌++◌, Option, Some, None, Ok, Err, length, take, is_some, IfSome, IsTrue, ◌⊎◌, ⊤}
 use Rattle.std.specs.Io.KnownBytes.{Appends}
 use Rattle.ledger_job.specs.Jobs.{job_of}
 use Rattle.ledger_job.specs.declared.block.BlockVerdicts.{BlockVerdicts}
 use Rattle.ledger_job.specs.declared.job.Job.{Job}
-use Rattle.ledger_job.specs.declared.kind.JobKind.TheVariants.{Local}
-use Rattle.ledger_job.specs.declared.payment.Payment.{Payment}
-use Rattle.ledger_job.specs.Payments.{payment_changes}
+use Rattle.ledger_job.specs.declared.kind.JobKind.{JobKind}
+use Rattle.ledger_job.specs.declared.kind.JobKind.TheVariants.{Local, Follow}
 use Rattle.ledger_codec.specs.Causes.{Rose}
 use Rattle.ledger_log.specs.View.{LogView}
 use Rattle.ledger_log.specs.declared.any.AnyOp.{AnyOp}
 use Rattle.ledger_log.specs.declared.target.Target.{Target}
-use Rattle.ledger_managed.specs.Spelled.{sequenced_values}
 use Rattle.ledger_program.specs.ErrorLines.{line_of}
 use Rattle.ledger_program.specs.Faults.{fault_of}
+use Rattle.ledger_program.specs.Peer.{payments, Over, ReportsPeer, FailsPeer, IsServing, IsNoMemory, PeerFails}
 use Rattle.ledger_program.specs.Reading.{HeldMore}
 use Rattle.ledger_program.specs.Served.{served}
 use Rattle.ledger_program.specs.Text.{text_of}
@@ -22,38 +20,29 @@ use Rattle.ledger_program.specs.Writing.{AppendsFront}
 use Rattle.ledger_program.specs.declared.fault.Fault.{Fault}
 use Rattle.ledger_program.specs.declared.fault.Fault.TheVariants.{Network, RequestChannelClosed, InvalidResponse, UnexpectedResponse, Server, InvalidProof, TooManyStrays, StaleUpdate, WrongRoot, BadLog, BadValue, Rejected, Full, OutOfMemory as FollowMemory}
 use Rattle.ledger_program.specs.declared.outcome.RunFault.{RunFault}
-use Rattle.ledger_program.specs.declared.outcome.RunFault.TheVariants.{Usage, BadJob, JobRead, JobTooLarge, Dial, Follow, Output, OutOfMemory}
-use Rattle.ledger_settling.specs.Blocks.{Meaning, meaning, RunsTo}
+use Rattle.ledger_program.specs.declared.outcome.RunFault.TheVariants.{Usage, BadJob, JobRead, JobTooLarge, Dial, Follow as RunFollow, Output, OutOfMemory}
+use Rattle.ledger_settling.specs.Blocks.{RunsTo}
 use Rattle.ledger_settling.specs.Faults.{RunFails}
 use Rattle.ledger_settling.specs.Reports.{ReportOf, Spans}
 use Rattle.ledger_settling.specs.declared.fault.ReportFault.{ReportFault}
 use Rattle.ledger_settling.specs.declared.report.Report.{Report}
-use Rattle.ledger_managed.specs.SpelledProofs.{sequenced_same}
-use Rattle.ledger_transfers.specs.Accounts.{sequenced_rules}
 use Rattle.ledger_transfers.specs.declared.sequenced.Sequenced.{Sequenced}
-
--- the words are `local` alone
-abbrev pub is_form : List (List ℕ) → Bool
-is_form (word ∷ []) = bytes_eq word (codes "local")
-is_form _ = false
+use Rattle.sync_net.specs.Core.{LogData}
+use Rattle.sync_net.specs.Service.{Service}
 
 -- the greatest number of bytes of a job
 abbrev pub max_job : ℕ
 max_job = 67108864
 
--- what payments and sequenced accounts mean
-abbrev pub payments : Meaning Payment Sequenced ℕ
-payments = meaning payment_changes sequenced_same sequenced_rules sequenced_values
-
--- the text is this job
-pub record IsJob (text : List ℕ) (job : Job) : Type 0 where
+-- the text is this job of the kind
+pub record IsJob (kind : JobKind) (text : List ℕ) (job : Job) : Type 0 where
   pub within : length text ≤ max_job
-  pub is : job_of Local text ≡ Ok job
+  pub is : job_of kind text ≡ Ok job
 
--- this line of the text is its least offending one
-pub record Offends (text : List ℕ) (line : ℕ) : Type 0 where
+-- this line is the least offending one of the text as a job of the kind
+pub record Offends (kind : JobKind) (text : List ℕ) (line : ℕ) : Type 0 where
   pub within : length text ≤ max_job
-  pub is : job_of Local text ≡ Err line
+  pub is : job_of kind text ≡ Err line
 
 -- the target is that of the log that the job serves
 pub record IsServed (job : Job) (target : Target) : Type 0 where
@@ -76,30 +65,71 @@ pub record FailsJob (job : Job) (fault : Fault) : Type 0 where
   pub fault_is : fault ≡ fault_of cause
   pub fails : RunFails payments target (served job.opens) job.blocks cause
 
--- there is a job whose report it is; where the source told its bytes, their text is that job
-pub record Followed (left : Option (List ℕ)) (report : Report Sequenced) : Type 0 where
-  pub job : Job
-  pub is_job : IfSome left (λ text. IsJob text job)
-  pub reports : ReportsJob job report
+-- a fault of a block
+abbrev pub IsOfBlock : Fault → Type 0
+IsOfBlock (Rejected block rejection) = ⊤
+IsOfBlock (Full block) = ⊤
+IsOfBlock fault = ⊥
 
--- there is a job that has no report, for this cause; where the source told its bytes, their text is that job
-pub record Unfollowed (left : Option (List ℕ)) (fault : Fault) : Type 0 where
-  pub job : Job
-  pub is_job : IfSome left (λ text. IsJob text job)
-  pub fails : FailsJob job fault
+-- the report is that of the job: over the log that it serves, or over what the dialed link gave
+abbrev pub Reports : JobKind → Job → Over → Report Sequenced → Type 0
+Reports Local job over report = ReportsJob job report
+Reports Follow job over report = ReportsPeer job over report
 
--- the text is a job whose blocks settle, one after another, on the log that it serves
-pub record IsSettling (text : List ℕ) : Type 0 where
+-- why the job has no report: over the log that it serves, only for a block of it
+abbrev pub HasNone : JobKind → Job → Over → Fault → Type 0
+HasNone Local job over fault = IsOfBlock fault × FailsJob job fault
+HasNone Follow job over fault = IsNoMemory fault × FailsPeer job over fault
+
+-- there is a job of the kind that the words ask for whose report it is; where the source told its bytes, their text is that job
+pub record Followed (form : Option JobKind) (left : Option (List ℕ)) (over : Over) (report : Report Sequenced) : Type 0 where
+  pub kind : JobKind
+  pub form_is : form ≡ Some kind
   pub job : Job
-  pub is_job : IsJob text job
+  pub is_job : IfSome left (λ text. IsJob kind text job)
+  pub reports : Reports kind job over report
+
+-- there is a job of that kind that has no report, for this cause; where the source told its bytes, their text is that job
+pub record Unfollowed (form : Option JobKind) (left : Option (List ℕ)) (over : Over) (fault : Fault) : Type 0 where
+  pub kind : JobKind
+  pub form_is : form ≡ Some kind
+  pub job : Job
+  pub is_job : IfSome left (λ text. IsJob kind text job)
+  pub fails : HasNone kind job over fault
+
+-- where the source told its bytes, this line is the least offending one of their text as a job of the kind that the words ask for
+pub record Misread (form : Option JobKind) (left : Option (List ℕ)) (line : ℕ) : Type 0 where
+  pub kind : JobKind
+  pub form_is : form ≡ Some kind
+  pub offends : IfSome left (λ text. Offends kind text line)
+
+-- the job's blocks settle, one after another, on the log that it serves
+pub record Settling (job : Job) : Type 0 where
   pub verdicts : List BlockVerdicts
   pub all : List AnyOp
   pub runs : RunsTo payments (served job.opens) job.blocks verdicts all
 
--- where the words are a form, the blocks of the job settle and no count rose, only want of memory keeps the status from being 0
-abbrev pub Completes : Bool → Option (List ℕ) → ℕ → ℕ → ℕ → ℕ → ℕ → Type 0
-Completes form left read_before read_now wrote_before wrote_now status =
-    form ≡ true → IfSome left (λ text. IsSettling text → (Rose read_before read_now → ⊥) → (Rose wrote_before wrote_now → ⊥) → (status ≡ 0) ⊎ (status ≡ 11))
+-- the job has a report: its blocks settle on the log that it serves, or the link serves what it names, and its input is valid
+abbrev pub IsReady : JobKind → Option Service → Job → Type 0
+IsReady Local service job = Settling job
+IsReady Follow service job = (held : LogData) × IsServing held job service
+
+-- the text is a job that has a report
+pub record IsRight (kind : JobKind) (service : Option Service) (text : List ℕ) : Type 0 where
+  pub job : Job
+  pub is_job : IsJob kind text job
+  pub ready : IsReady kind service job
+
+-- no dial and no call of the link failed, where there is one
+abbrev pub Still : JobKind → ℕ → ℕ → Over → Type 0
+Still Local before now over = ⊤
+Still Follow before now over = (Rose before now → ⊥) × (Rose over.count over.count_now → ⊥)
+
+-- where the text is a job that has a report, and no count rose, only want of memory keeps the status from being 0
+abbrev pub Completes : Option JobKind → Option (List ℕ) → ℕ → ℕ → ℕ → ℕ → ℕ → ℕ → Over → ℕ → Type 0
+Completes form left read_before read_now wrote_before wrote_now dialed_before dialed_now over status =
+    (kind : JobKind) → form ≡ Some kind
+    → IfSome left (λ text. IsRight kind over.service text → (Rose read_before read_now → ⊥) → (Rose wrote_before wrote_now → ⊥) → Still kind dialed_before dialed_now over → (status ≡ 0) ⊎ (status ≡ 11))
 
 -- the target of a whole log that begins at 0
 pub record SpansLog (target : Target) (log : LogView AnyOp) : Type 0 where
@@ -110,36 +140,51 @@ pub record SpansLog (target : Target) (log : LogView AnyOp) : Type 0 where
 -- a fault of following a log as one of the run
 abbrev pub run_fault_of : Fault → RunFault
 run_fault_of FollowMemory = OutOfMemory
-run_fault_of fault = Follow fault
+run_fault_of fault = RunFollow fault
 
 -- why a job has no report over the log that it serves, which is a log of accounts: a block has none
 abbrev pub LocalFails : Job → RunFault → Type 0
-LocalFails job (Follow (Rejected block rejection)) = FailsJob job (Rejected block rejection)
-LocalFails job (Follow (Full block)) = FailsJob job (Full block)
-LocalFails job (Follow fault) = ⊥
+LocalFails job (RunFollow fault) = IsOfBlock fault × FailsJob job fault
 LocalFails job OutOfMemory = ⊤
 LocalFails job fault = ⊥
 
--- why no job was read from a source that held these bytes and whose count went from the one number to the other
-abbrev pub ReadFails : Option (List ℕ) → ℕ → ℕ → RunFault → Type 0
-ReadFails left before now (BadJob line) = IfSome left (λ text. Offends text line)
-ReadFails left before now JobRead = Rose before now
-ReadFails left before now JobTooLarge = HeldMore max_job left
-ReadFails left before now OutOfMemory = ⊤
-ReadFails left before now fault = ⊥
+-- why a job of a kind has no report
+abbrev pub JobFails : JobKind → Job → Over → ℕ → ℕ → RunFault → Type 0
+JobFails Local job over before now fault = LocalFails job fault
+JobFails Follow job over before now fault = PeerFails job over before now fault
+
+-- why no job of a kind was read from a source that held these bytes and whose count went from the one number to the other
+abbrev pub ReadFails : JobKind → Option (List ℕ) → ℕ → ℕ → RunFault → Type 0
+ReadFails kind left before now (BadJob line) = IfSome left (λ text. Offends kind text line)
+ReadFails kind left before now JobRead = Rose before now
+ReadFails kind left before now JobTooLarge = HeldMore max_job left
+ReadFails kind left before now OutOfMemory = ⊤
+ReadFails kind left before now fault = ⊥
+
+-- a dial failed, as the words ask for one, and nothing was sent or read
+pub record Undialed (form : Option JobKind) (before now : ℕ) (over : Over) : Type 0 where
+  pub form_is : form ≡ Some Follow
+  pub rose : Rose before now
+  pub silent : over.wire_now ≡ over.wire
 
 -- why there is no report, cause by cause
-abbrev pub Attempted : Bool → Option (List ℕ) → ℕ → ℕ → RunFault → Type 0
-Attempted form left before now Usage = form ≡ false
-Attempted form left before now (BadJob line) = (form ≡ true) × IfSome left (λ text. Offends text line)
-Attempted form left before now JobRead = (form ≡ true) × Rose before now
-Attempted form left before now JobTooLarge = (form ≡ true) × HeldMore max_job left
-Attempted form left before now Dial = ⊥
-Attempted form left before now (Follow (Rejected block rejection)) = (form ≡ true) × Unfollowed left (Rejected block rejection)
-Attempted form left before now (Follow (Full block)) = (form ≡ true) × Unfollowed left (Full block)
-Attempted form left before now (Follow fault) = ⊥
-Attempted form left before now Output = ⊥
-Attempted form left before now OutOfMemory = form ≡ true
+abbrev pub Attempted : Option JobKind → Option (List ℕ) → ℕ → ℕ → ℕ → ℕ → Over → RunFault → Type 0
+Attempted form left before now dialed_before dialed_now over Usage = form ≡ None
+Attempted form left before now dialed_before dialed_now over (BadJob line) = Misread form left line
+Attempted form left before now dialed_before dialed_now over JobRead = (is_some form ≡ true) × Rose before now
+Attempted form left before now dialed_before dialed_now over JobTooLarge = (is_some form ≡ true) × HeldMore max_job left
+Attempted form left before now dialed_before dialed_now over Dial = Undialed form dialed_before dialed_now over
+Attempted form left before now dialed_before dialed_now over (RunFollow fault) = Unfollowed form left over fault
+Attempted form left before now dialed_before dialed_now over Output = ⊥
+Attempted form left before now dialed_before dialed_now over OutOfMemory = is_some form ≡ true
+
+-- a fault that comes before there is a dial
+abbrev pub is_undialed : Option RunFault → Bool
+is_undialed (Some Usage) = true
+is_undialed (Some (BadJob line)) = true
+is_undialed (Some JobRead) = true
+is_undialed (Some JobTooLarge) = true
+is_undialed fault = false
 
 -- whether the job was read to its end before this fault
 abbrev pub is_read : Option RunFault → Bool
@@ -180,7 +225,7 @@ status_of (Some (BadJob line)) = 3
 status_of (Some JobRead) = 4
 status_of (Some JobTooLarge) = 5
 status_of (Some Dial) = 6
-status_of (Some (Follow fault)) = follow_status fault
+status_of (Some (RunFollow fault)) = follow_status fault
 status_of (Some Output) = 10
 status_of (Some OutOfMemory) = 11
 
@@ -234,15 +279,7 @@ IsLate Output = ⊤
 IsLate OutOfMemory = ⊤
 IsLate fault = ⊥
 
--- the cause of each fault: of words, of what the source held and its count, and of the sink's count
-abbrev pub Caused : Bool → Option (List ℕ) → ℕ → ℕ → ℕ → ℕ → RunFault → Type 0
-Caused form left read_before read_now wrote_before wrote_now Usage = form ≡ false
-Caused form left read_before read_now wrote_before wrote_now (BadJob line) = (form ≡ true) × IfSome left (λ text. Offends text line)
-Caused form left read_before read_now wrote_before wrote_now JobRead = (form ≡ true) × Rose read_before read_now
-Caused form left read_before read_now wrote_before wrote_now JobTooLarge = (form ≡ true) × HeldMore max_job left
-Caused form left read_before read_now wrote_before wrote_now Dial = ⊥
-Caused form left read_before read_now wrote_before wrote_now (Follow (Rejected block rejection)) = (form ≡ true) × Unfollowed left (Rejected block rejection)
-Caused form left read_before read_now wrote_before wrote_now (Follow (Full block)) = (form ≡ true) × Unfollowed left (Full block)
-Caused form left read_before read_now wrote_before wrote_now (Follow fault) = ⊥
-Caused form left read_before read_now wrote_before wrote_now Output = (form ≡ true) × Rose wrote_before wrote_now
-Caused form left read_before read_now wrote_before wrote_now OutOfMemory = form ≡ true
+-- the cause of each fault: of words, of what the source held and its count, of the dials' count, the dialed link, and the sink's count
+abbrev pub Caused : Option JobKind → Option (List ℕ) → ℕ → ℕ → ℕ → ℕ → ℕ → ℕ → Over → RunFault → Type 0
+Caused form left read_before read_now wrote_before wrote_now dialed_before dialed_now over Output = (is_some form ≡ true) × Rose wrote_before wrote_now
+Caused form left read_before read_now wrote_before wrote_now dialed_before dialed_now over fault = Attempted form left read_before read_now dialed_before dialed_now over fault

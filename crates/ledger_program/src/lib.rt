@@ -1,16 +1,17 @@
 //! The program as calls over what they are given: words, a job to read, and a sink to write to.
 //!
 //! ```text
-//!   words, job --read_job--> Job --served--> a link to the log --follow--> Report --report_text--> sink
-//!                 |                                               |
-//!                 +------------------- RunFault ------------------+--error_line--> sink
+//!   words, job --read_job--> Job --served, or dial--> a link to the log --follow--> Report --report_text--> sink
+//!                 |                         |                              |
+//!                 +--------------------- RunFault -------------------------+--error_line--> sink
 //! ```
 //!
 //! [`follow`] takes any link: it fetches the target's range, checks it against the root, and settles blocks on it.
 //! Its contract stands over the definitions of `specs/Follow.antt`.
 //!
 //! What a run answers is said by the contract of [`run`], over the definitions of `specs/Run.antt`: the
-//! report is that of the job's blocks over the log that the job serves, and each fault has its cause. The
+//! report is that of the job's blocks over the log that the job serves, or over what a dialed link gave, and each fault
+//! has its cause. The
 //! job, the printed report and the error lines are described in docs/FORMATS.md.
 #![tactic(auto)]
 
@@ -21,6 +22,7 @@ mod following;
 mod key_text;
 mod local;
 mod outcome;
+mod peer;
 mod printable;
 mod program;
 mod reading;

@@ -1,6 +1,7 @@
 //! A job's own log, followed over a link in memory.
 ghost use Rattle.std.specs.Prelude.{◌≡◌, ◌≤◌, ◌^◌, [], IfOk, IfErr};
 ghost use Rattle.ledger_log.specs.Any.{any_floor, any_spelling};
+ghost use Rattle.ledger_program.specs.Peer.{asked};
 ghost use Rattle.ledger_program.specs.Run.{ReportsJob, LocalFails, SpansLog, run_fault_of};
 ghost use Rattle.sync_client.specs.Owing.{OwesNothing};
 ghost use Rattle.sync_net.specs.Core.{data_of};
@@ -49,8 +50,8 @@ fn link_to(alloc: Global, log: Log<AnyFamily, Sha256Hasher>) -> MemoryLink<AnyFa
 }
 
 /// How much is asked at once.
-fn limits_of(limits: JobLimits) -> Limits
-    ensures { result ≡ record { batch = limits.batch; outstanding = limits.outstanding } }
+pub(crate) fn limits_of(limits: JobLimits) -> Limits
+    ensures { result ≡ asked limits }
 {
     match Limits::new(limits.batch(), limits.outstanding() as usize) {
         Some(limits) => limits,
@@ -59,7 +60,7 @@ fn limits_of(limits: JobLimits) -> Limits
 }
 
 /// A fault of following a log as one of the run.
-fn run_fault(fault: Fault) -> RunFault
+pub(crate) fn run_fault(fault: Fault) -> RunFault
     ensures { result ≡ run_fault_of fault }
 {
     match fault {
