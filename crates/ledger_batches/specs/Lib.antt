@@ -1,0 +1,5 @@
+pub mod Writes
+pub mod Chain
+pub mod Batches
+pub mod Appended
+pub mod Faults

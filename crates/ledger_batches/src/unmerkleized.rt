@@ -1,0 +1,152 @@
+//! A batch that takes writes.
+ghost use Rattle.std.specs.Prelude.{◌≡◌, ◌++◌, ◌∷◌, [], None, Some, Err, map, MatchOption, IsOk, IsOkUnless, IfOk};
+ghost use Rattle.ledger_batches.specs.Chain.{state_of, read};
+ghost use Rattle.ledger_batches.specs.Faults.{stale_read};
+ghost use Rattle.ledger_batches.specs.Writes.{settled};
+
+use crate::chain::{Chain, state_of};
+use crate::fault::ManagedFault;
+use crate::staged::Staged;
+use crate::writes::Writes;
+use ledger_codec::OutOfMemory;
+use ledger_log::{Family, Key, KeyedFamily, Log, Value};
+use ledger_merkle::Hasher;
+use std::alloc::Global;
+use std::marker::Model;
+
+/// A batch that takes writes. It is read over a database whose size and root are a state of its chain: those
+/// that it was made over, or those after one of its ancestors.
+#[derive(Drop)]
+pub struct Unmerkleized<F: Family> {
+    alloc: Global,
+    chain: Chain<F>,
+    writes: Writes,
+    metadata: Option<Value>,
+}
+
+impl<F: Family> Model for Unmerkleized<F> {
+    ghost use Rattle.ledger_batches.specs.Batches.{BatchView};
+
+    ghost Value = { BatchView F.Op };
+
+    ghost view = { λ b. record { chain = b.chain; writes = b.writes; metadata = b.metadata } };
+}
+
+impl<F: Family> Unmerkleized<F> {
+    /// A batch without writes over the database.
+    pub fn over<H: Hasher>(alloc: Global, db: &Log<F, H>) -> Unmerkleized<F>
+        ensures { result ≡ record { chain = record { base = state_of H.digest F.Op.spelling db.now; links = [] }; writes = []; metadata = None } }
+    {
+        Unmerkleized::on(alloc, Chain::new(alloc, state_of(db)))
+    }
+
+    /// A batch without writes over this chain.
+    pub(crate) fn on(alloc: Global, chain: Chain<F>) -> Unmerkleized<F>
+        ensures { result ≡ record { chain = chain; writes = []; metadata = None } }
+    {
+        Unmerkleized {
+            alloc,
+            chain,
+            writes: Writes::new(alloc),
+            metadata: None,
+        }
+    }
+
+    /// The batch with these metadata in its commit.
+    pub fn with_metadata(mut self, metadata: Value) -> Unmerkleized<F>
+        ensures { result ≡ record { chain = self.chain; writes = self.writes; metadata = Some metadata } }
+    {
+        self.metadata = Some(metadata);
+        self
+    }
+
+    /// The batch with one write more: the key takes this value, or none. Refused for want of memory alone,
+    /// which gives the batch up.
+    pub fn write(mut self, key: Key, value: Option<Value>) -> Result<Unmerkleized<F>, ManagedFault>
+        ensures may { IsOkUnless result ManagedFault.OutOfMemory }
+        ensures ok { IfOk result (λ batch. batch ≡ record { chain = self.chain; writes = settled (self.writes ++ (key, value) ∷ []); metadata = self.metadata }) }
+    {
+        self.writes.put(key, value)?;
+        Ok(self)
+    }
+
+    /// Ok exactly where the database is in a state of the chain.
+    pub(crate) fn check<H: Hasher>(&self, db: &Log<F, H>) -> Result<usize, ManagedFault>
+        ensures { MatchOption (stale_read self.now.chain (state_of H.digest F.Op.spelling db.now)) (IsOk result) (λ fault. result ≡ Err fault) }
+    {
+        let state = state_of(db);
+        match self.chain.place(&state) {
+            Some(place) => Ok(place),
+            None => Err(ManagedFault::StaleRead {
+                size: state.size,
+                root: state.root,
+            }),
+        }
+    }
+}
+
+impl<F: KeyedFamily> Unmerkleized<F> {
+    /// The value of the key, which is None where it has none. It takes no memory. Refused exactly where the
+    /// database's size and root are no state of the chain, with these.
+    pub fn get<H: Hasher>(&self, db: &Log<F, H>, key: &Key) -> Result<Option<Value>, ManagedFault>
+        ensures refusal { MatchOption (stale_read self.now.chain (state_of H.digest F.Op.spelling db.now)) (IsOk result) (λ fault. result ≡ Err fault) }
+        ensures value { IfOk result (λ value. value ≡ read F.write_of self.now.chain self.now.writes db.now key.now) }
+    {
+        self.check(db)?;
+        Ok(self.read(db, key))
+    }
+
+    /// The values of the keys, in their order. Refused as [`Unmerkleized::get`] is, and then for want of memory.
+    pub fn get_many<H: Hasher>(
+        &self,
+        db: &Log<F, H>,
+        keys: &[Key],
+    ) -> Result<Vec<Option<Value>>, ManagedFault>
+        ensures refusal { MatchOption (stale_read self.now.chain (state_of H.digest F.Op.spelling db.now)) (IsOkUnless result ManagedFault.OutOfMemory) (λ fault. result ≡ Err fault) }
+        ensures values { IfOk result (λ values. values.items ≡ map (read F.write_of self.now.chain self.now.writes db.now) keys.now) }
+    {
+        self.check(db)?;
+        Ok(self.read_all(db, keys)?)
+    }
+
+    /// The values of the keys, in their order, and the batch with slots for them. Refused as
+    /// [`Unmerkleized::get_many`] is, which gives the batch up.
+    pub fn stage<H: Hasher>(
+        self,
+        db: &Log<F, H>,
+        keys: &[Key],
+    ) -> Result<(Vec<Option<Value>>, Staged<F>), ManagedFault>
+        ensures refusal { MatchOption (stale_read self.chain (state_of H.digest F.Op.spelling db.now)) (IsOkUnless result ManagedFault.OutOfMemory) (λ fault. result ≡ Err fault) }
+        ensures values { IfOk result (λ r. r.0.items ≡ map (read F.write_of self.chain self.writes db.now) keys.now) }
+        ensures staged { IfOk result (λ r. r.1 ≡ record { batch = self; keys = keys.now }) }
+    {
+        let values = self.get_many(db, keys)?;
+        let keys = Vec::from_slice(self.alloc, keys)?;
+        Ok((values, Staged::new(self, keys)))
+    }
+
+    /// What the batch reads at the key.
+    fn read<H: Hasher>(&self, db: &Log<F, H>, key: &Key) -> Option<Value>
+        ensures { result ≡ read F.write_of self.now.chain self.now.writes db.now key.now }
+    {
+        match self.writes.last(key) {
+            Some(value) => value,
+            None => self.chain.view(db, key),
+        }
+    }
+
+    /// What the batch reads at each of the keys.
+    fn read_all<H: Hasher>(
+        &self,
+        db: &Log<F, H>,
+        keys: &[Key],
+    ) -> Result<Vec<Option<Value>>, OutOfMemory>
+        ensures { IfOk result (λ values. values.items ≡ map (read F.write_of self.now.chain self.now.writes db.now) keys.now) }
+    {
+        Ok(
+            keys.iter()
+                .map(|key| self.read(db, key))
+                .collect(self.alloc)?,
+        )
+    }
+}

@@ -1,0 +1,128 @@
+"""What batches read and append in worked cases, and the laws of the copies over many logs.
+`python3 appended.py` prints the cases, and ends with an error where a law fails."""
+import pathlib
+import random
+import sys
+
+sys.path.insert(0, str(pathlib.Path(__file__).resolve().parents[3] / "tests"))
+from rules import commit, root, update  # noqa: E402
+
+
+def replay(ops):
+    """The values of the keys that have one."""
+    values = {}
+    for op in ops:
+        if op[0] == "update":
+            values[op[1]] = op[2]
+        elif op[0] == "delete":
+            values.pop(op[1], None)
+    return values
+
+
+def counting(ops, start=0):
+    """The places of the updates that are their keys' last operations."""
+    last = {op[1]: place for place, op in enumerate(ops) if op[0] != "commit"}
+    return [start + place for place, op in enumerate(ops) if op[0] == "update" and last[op[1]] == place]
+
+
+def floor_of(ops):
+    return [op[2] for op in ops if op[0] == "commit"][-1]
+
+
+def changes(values, writes):
+    """One operation a written key: Python's dictionaries keep the first place of a key and its last value."""
+    out = []
+    for key, value in dict(writes).items():
+        if value is not None:
+            out.append(("update", key, value))
+        elif key in values:
+            out.append(("delete", key))
+    return out
+
+
+def raised(ops, more, metadata=None, start=0):
+    """What a batch with these changes appends to the log of these operations, whose first stands at `start`."""
+    end, floor = start + len(ops), floor_of(ops)
+    old = [place for place in counting(ops + more, start) if floor <= place < end]
+    copies = [ops[place - start] for place in old[: len(more)]]
+    behind = ops + more + copies
+    above = [place for place in counting(behind, start) if floor <= place]
+    return more + copies + [("commit", metadata, above[0] if above else start + len(behind))]
+
+
+def keeps_the_laws(ops, more, start):
+    """The copies leave the values as they were; the floor doesn't fall, nor pass the commit or an update that counts
+    and that it was below; and there is at most one copy a change."""
+    batch = raised(ops, more, None, start)
+    whole, floor = ops + batch, batch[-1][2]
+    sound = all(floor_of(ops) <= place for place in counting(ops, start))
+    return (
+        replay(whole) == replay(ops + more)
+        and floor_of(ops) <= floor <= start + len(whole) - 1
+        and (not sound or all(floor <= place for place in counting(whole, start)))
+        and len(batch) - 1 - len(more) <= len(more)
+    )
+
+
+def some_log(draw):
+    """Some operations that end with a commit, and their first place."""
+    start, ops = draw.randrange(4), []
+    for _ in range(draw.randrange(12)):
+        key = draw.choice("abcd")
+        ops.append(draw.choice([("update", key, draw.randrange(9)), ("update", key, 9), ("delete", key)]))
+    least = start + draw.randrange(len(ops) + 1)
+    return ops + [("commit", None, least)], start
+
+
+def laws():
+    draw = random.Random(1)
+    for _ in range(20000):
+        ops, start = some_log(draw)
+        writes = [(draw.choice("abcde"), draw.choice([None, 1, 2])) for _ in range(draw.randrange(5))]
+        assert keeps_the_laws(ops, changes(replay(ops), writes), start), (ops, writes, start)
+
+
+def opened(*accounts):
+    """A log of a commit, an update for each account, and a commit."""
+    return [("commit", None, 0)] + [("update", key, value) for key, value in accounts] + [("commit", None, 0)]
+
+
+def cases():
+    ten = (10, 0)
+    three = opened(("a", ten), ("b", ten), ("c", ten))
+    yield "a change and a new key move two old accounts", three, [("c", (9, 1)), ("d", (1, 0))]
+    yield "a payment to oneself moves one", opened(*((key, ten) for key in "abcd")), [("d", (10, 1))]
+    yield "no write moves none, and raises the floor to the first account", opened(("alice", ten)), []
+    one = opened(("alice", ten))
+    yield "nothing old is left", one, [("alice", (4, 1)), ("bob", (6, 0))]
+    yield "the last of three writes stands at the first's place", opened(("a", 1)), [
+        ("a", 5), ("b", None), ("a", 2), ("c", None), ("c", 3), ("c", None),
+    ]
+    yield "a deletion of what is held", opened(("a", 1)), [("a", 1), ("b", None), ("a", None)]
+
+
+def reads():
+    """The values of the keys 1 to 4 in the tests, 0 where there is none: each level of writes goes over those below."""
+    levels = {
+        "a log": [{1: 1, 4: 4}],
+        "with writes": [{1: 1, 4: 4}, dict([(1, 5), (2, 0), (1, 2), (3, 0), (3, 3), (4, 0)])],
+        "over two ancestors": [{1: 1, 2: 1, 4: 1}, {2: 2, 1: 0}, {2: 3}, {3: 9}],
+    }
+    for text, below in levels.items():
+        yield text, [next((level[key] for level in reversed(below) if key in level), 0) for key in (1, 2, 3, 4)]
+
+
+def main():
+    for text, values in reads():
+        print(text, values)
+    for text, ops, writes in cases():
+        print(text)
+        for place, op in enumerate(raised(ops, changes(replay(ops), writes)), len(ops)):
+            print("   ", place, op)
+    laws()
+    short = [commit(0), update(b"\1" * 32, b"\2" * 32), commit(0)]
+    print("root of a log of one account", root(short).hex())
+
+
+if __name__ == "__main__":
+    main()
