@@ -1,9 +1,10 @@
 -- The operations that a settled batch appends.
-use Rattle.std.proofs.Common.{◌≡◌, ℕ, ◌+◌, ◌-◌, ◌^◌, ◌||◌, ◌⊎◌, inl, inr, rules, ◌<◌, ◌≤◌, Bool, true, false, cond, nat_lt, nat_le, List, [], ◌∷◌, ◌++◌, length, map, Option, None, Some, Result, Err, refl, sym, ap, subst, ◌∙◌, bytes_eq, not, filter, arith, append_assoc, length-append}
+use Rattle.std.proofs.Common.{◌≡◌, ℕ, ◌+◌, ◌-◌, ◌^◌, ◌||◌, ◌⊎◌, inl, inr, rules, ◌<◌, ◌≤◌, Bool, true, false, cond, nat_lt, nat_le, List, [], ◌∷◌, ◌++◌, length, map, reverse, slice_get, suc, Option, None, Some, Result, Err, refl, sym, ap, subst, ◌∙◌, bytes_eq, not, filter, arith, append_assoc, length-append}
 use borrow.Author.Tests.{tests}
-use Rattle.std.specs.Prelude.{IsSome, MatchOption, IsOkUnless, option_and_then, unwrap_or, is_some}
+use Rattle.std.specs.Prelude.{MatchOption, IsOkUnless, option_and_then, option_to_list, unwrap_or, is_some}
 use Rattle.std.specs.Option.{option_map}
-use Rattle.std.specs.List.{list_any, AllByRecursion, filter_map, cons_option, last_or}
+use Rattle.std.specs.List.{list_any, AllByRecursion, filter_map, cons_option, last_or, zip}
+use Rattle.std.proofs.lemmas.List.{append-nil}
 use Rattle.std.specs.BTreeMap.{BTreeMap}
 use Rattle.std.specs.Cmp.{IsEquivalence}
 use Rattle.std.specs.Cmp.Lexicographic.{nat_list_eq_equiv}
@@ -17,13 +18,15 @@ use Rattle.ledger_log.specs.declared.fault.LogFault.TheVariants.{Full as LogFull
 use Rattle.ledger_managed.specs.Values.{Values, ValueLaws}
 use Rattle.ledger_transfers.specs.Rules.{Rules, AccountLaws}
 use Rattle.ledger_transfers.specs.Touches.{total_of}
-use Rattle.ledger_transfers.specs.Settling.{opened, after, SameSlot, slot_of}
+use Rattle.ledger_transfers.specs.Registering.{AreSettled}
+use Rattle.ledger_transfers.specs.Settling.{opened, after, SettlesTo, SameSlot, slot_of}
 use Rattle.ledger_transfers.specs.declared.change.Change.{Change}
 use Rattle.ledger_transfers.specs.declared.slot.Slot.{Slot}
 use Rattle.ledger_transfers.specs.declared.slot.Slot.TheVariants.{Keep, Put, Delete as Remove}
-use Rattle.ledger_settling.specs.Blocks.{firsts, floor_of, account_at, written, slot_at, changed, appended, with_touches}
+use Rattle.ledger_settling.specs.Blocks.{firsts, floor_of, account_at, written, slot_at, with_touches}
 use Rattle.ledger_settling.specs.Reports.{IsReplay}
-use Rattle.ledger_settling.specs.Slots.{AreSlotsOf, slot_found, opening_of, IsFullOrMemory, AppendFails, append_fault}
+use Rattle.ledger_settling.specs.Slots.{writes_of, with_slots, touched_first, opening_of, IsFullOrMemory, AppendFails, append_fault}
+use Rattle.ledger_transfers.proofs.RegisterLemmas.{reverse_push}
 use Rattle.ledger_settling.proofs.ReplayLemmas.{replay_commit}
 use Rattle.ledger_settling.proofs.SlotLemmas.{settles_alike, opens_alike}
 
@@ -48,20 +51,17 @@ filter_all P p (x ∷ xs) h = by (p x) (filter_all P p xs h.1)
     by true r = (h.0, r)
     by false r = r
 
-firsts_all : {K : Type 0} (eq : K → K → Bool) (P : K → Type 0) (ks : List K) → AllByRecursion P ks → AllByRecursion P (firsts eq ks)
+-- what holds of each key holds of the first places
+pub firsts_all : {K : Type 0} (eq : K → K → Bool) (P : K → Type 0) (ks : List K) → AllByRecursion P ks → AllByRecursion P (firsts eq ks)
 firsts_all eq P [] h = tt
 firsts_all eq P (k ∷ ks) h = (h.0, filter_all P (λ q. not (eq k q)) (firsts eq ks) (firsts_all eq P ks h.1))
-
-filter_map_alike : {X Y : Type 0} (f g : X → Option Y) (xs : List X) → AllByRecursion (λ x. f x ≡ g x) xs → filter_map f xs ≡ filter_map g xs
-filter_map_alike f g [] h = refl
-filter_map_alike f g (x ∷ xs) h = ap (λ o. cons_option o (filter_map f xs)) h.0 ∙ ap (cons_option (g x)) (filter_map_alike f g xs h.1)
 
 or_true : (a b : Bool) → b ≡ true → (a || b) ≡ true
 or_true true b h = refl
 or_true false b h = h
 
 -- what holds of each touched key holds of the keys of the touches
-touched_all : {E : Type 0} (P : List ℕ → Type 0) (us : List (List ℕ × Change E)) → ((k : List ℕ) → list_any (λ t. bytes_eq k t.0) us ≡ true → P k) → AllByRecursion P (map (λ t. t.0) us)
+pub touched_all : {E : Type 0} (P : List ℕ → Type 0) (us : List (List ℕ × Change E)) → ((k : List ℕ) → list_any (λ t. bytes_eq k t.0) us ≡ true → P k) → AllByRecursion P (map (λ t. t.0) us)
 touched_all P [] h = tt
 touched_all P (u ∷ us) h =
     (h u.0 (ap (λ b. b || list_any (λ t. bytes_eq u.0 t.0) us) (nat_list_eq_equiv.refl u.0)), touched_all P us (λ k t. h k (or_true (bytes_eq k u.0) (list_any (λ t. bytes_eq k t.0) us) t)))
@@ -79,49 +79,71 @@ module _ {A E : Type 0} (same : A → A → Bool) (IsSound : A → Type 0) (rule
   written_same key (Put a) Remove h = absurd h
   written_same key (Put a) (Put b) h = ap (λ v. Some (Update key v)) (laws.one_value a b h)
 
-some_slot : {X : Type 0} (o : Option X) → IsSome o → (x : X) × (o ≡ Some x)
-some_slot None h = absurd cc
-some_slot (Some x) h = (x, refl)
+module _ {A : Type 0} (values : Values A) where
+  -- what slots write that write what the keys' own do
+  zip_written : (w : List ℕ → Slot A) (ks : List (List ℕ)) (ss : List (Slot A)) → length ss ≡ length ks → ((i : ℕ) (k : List ℕ) (s : Slot A) → slice_get ks i ≡ Some k → slice_get ss i ≡ Some s → written values k s ≡ written values k (w k))
+      → writes_of values ks ss ≡ filter_map (λ k. written values k (w k)) ks
+  zip_written w [] ss l h = refl
+  zip_written w (k ∷ ks) [] l h = absurd (omega (arith, l))
+  zip_written w (k ∷ ks) (s ∷ ss) l h =
+      ap (λ o. cons_option o (writes_of values ks ss)) (h 0 k s refl refl) ∙ ap (cons_option (written values k (w k))) (zip_written w ks ss (omega (arith, l)) (λ i q t a b. h (suc i) q t a b))
+
+  no_commit : (key : List ℕ) (s : Slot A) (rest : List AnyOp) → AllByRecursion (λ op. any_floor op ≡ None) rest → AllByRecursion (λ op. any_floor op ≡ None) (cons_option (written values key s) rest)
+  no_commit key Keep rest r = r
+  no_commit key Remove rest r = (refl, r)
+  no_commit key (Put a) rest r = (refl, r)
+
+  no_commits : (ks : List (List ℕ)) (ss : List (Slot A)) → AllByRecursion (λ op. any_floor op ≡ None) (writes_of values ks ss)
+  no_commits [] ss = tt
+  no_commits (k ∷ ks) [] = tt
+  no_commits (k ∷ ks) (s ∷ ss) = no_commit k s (writes_of values ks ss) (no_commits ks ss)
+
+  push_option : (xs : List AnyOp) (o : Option AnyOp) (ys : List AnyOp) → (xs ++ option_to_list o) ++ ys ≡ xs ++ cons_option o ys
+  push_option xs None ys = ap (λ us. us ++ ys) (append-nil xs)
+  push_option xs (Some x) ys = append_assoc xs (x ∷ []) ys
+
+  writes_none : (ks : List (List ℕ)) → writes_of values ks [] ≡ []
+  writes_none [] = refl
+  writes_none (k ∷ ks) = refl
+
+  -- one key more is written, and the last slot is its
+  pub write_one : (key : List ℕ) (ks : List (List ℕ)) (all rest : List (Slot A)) (r : Option (Slot A)) (done : List AnyOp) (n m : ℕ) → n ≡ length all → m ≡ length rest → all ≡ rest ++ option_to_list r → MatchOption r ((n ≡ 0) × (m ≡ 0)) (λ s. m + 1 ≡ n)
+      → (done ++ option_to_list (option_and_then (written values key) r)) ++ writes_of values ks (reverse rest) ≡ done ++ writes_of values (key ∷ ks) (reverse all)
+  write_one key ks all rest (Some s) done n m a b e c =
+      push_option done (written values key s) (writes_of values ks (reverse rest)) ∙ sym (ap (λ us. done ++ writes_of values (key ∷ ks) us) (ap reverse e ∙ reverse_push rest s))
+  write_one key ks all rest None done n m a b e c =
+      ap (λ us. us ++ writes_of values ks (reverse rest)) (append-nil done)
+      ∙ ap (λ us. done ++ us) (ap (λ us. writes_of values ks (reverse us)) (none rest (sym b ∙ c.1)) ∙ writes_none ks)
+      ∙ sym (ap (λ us. done ++ writes_of values (key ∷ ks) (reverse us)) (none all (sym a ∙ c.0)))
+    where
+      none : (xs : List (Slot A)) → length xs ≡ 0 → xs ≡ []
+      none [] h = refl
+      none (x ∷ xs) h = absurd (omega (arith, h))
+
+batch_ends : (f : ℕ) (xs : List AnyOp) → AllByRecursion (λ op. any_floor op ≡ None) xs → batch_floor any_floor (xs ++ CommitFloor None f ∷ []) ≡ Some f
+batch_ends f [] h = refl
+batch_ends f (x ∷ []) h = ap (λ o. cond (is_some o) None (Some f)) h.0
+batch_ends f (x ∷ y ∷ ys) h = ap (λ o. cond (is_some o) None (batch_floor any_floor ((y ∷ ys) ++ CommitFloor None f ∷ []))) h.0 ∙ batch_ends f (y ∷ ys) h.1
 
 module _ {A E : Type 0} (same : A → A → Bool) (equiv : IsEquivalence same) (rules : Rules A E) (laws : AccountLaws same rules) (IsSound : A → Type 0) (values : Values A) (value_laws : ValueLaws same IsSound rules values)
-    (accounts : BTreeMap (List ℕ) A) (ops : List AnyOp) (replay : IsReplay same values accounts ops) (ts : List (List ℕ × Change E)) (keys : List (List ℕ)) (slots : List (Slot A))
-    (are : AreSlotsOf same rules (opening_of rules accounts) ts keys slots) where
-  -- the slot of a touched key writes what the key's slot writes
-  found_writes : (key : List ℕ) → list_any (λ t. bytes_eq key t.0) ts ≡ true → option_and_then (written values key) (slot_found keys slots key) ≡ written values key (slot_at same rules values ops ts key)
-  found_writes key t =
-      let slot = some_slot (slot_found keys slots key) (are.covers key t) in
+    (accounts : BTreeMap (List ℕ) A) (ops : List AnyOp) (replay : IsReplay same values accounts ops) (ts : List (List ℕ × Change E)) where
+  -- a key's slot writes what becomes of the key
+  slot_writes : (key : List ℕ) (slot : Slot A) → SettlesTo same rules (opening_of rules accounts key) (total_of bytes_eq ts key) slot → written values key slot ≡ written values key (slot_at same rules values ops ts key)
+  slot_writes key slot h =
       let opens = opens_alike same equiv rules laws values accounts ops replay ts key in
-      let settles = settles_alike same equiv rules laws (opening_of rules accounts key) (opened rules (account_at values ops key)) (total_of bytes_eq ts key) slot.0 opens (are.each key slot.0 slot.1) in
-      ap (option_and_then (written values key)) slot.1
-      ∙ by slot.0 (after rules (opened rules (account_at values ops key)) (total_of bytes_eq ts key)) settles.slot_is
+      let settles = settles_alike same equiv rules laws (opening_of rules accounts key) (opened rules (account_at values ops key)) (total_of bytes_eq ts key) slot opens h in
+      by slot (after rules (opened rules (account_at values ops key)) (total_of bytes_eq ts key)) settles.slot_is
     where
       by : (s : Slot A) (o : Option A) → MatchOption o ⊥ (λ e. SameSlot same s (slot_of same rules (opened rules (account_at values ops key)) e))
           → written values key s ≡ written values key (unwrap_or (option_map (slot_of same rules (opened rules (account_at values ops key))) o) Keep)
       by s None h = absurd h
       by s (Some e) h = written_same same IsSound rules values value_laws key s (slot_of same rules (opened rules (account_at values ops key)) e) h
 
-  -- the slots of the touched keys in order write the changes
-  pub slots_write : filter_map (λ key. option_and_then (written values key) (slot_found keys slots key)) (firsts bytes_eq (map (λ t. t.0) ts)) ≡ changed same rules values ops ts
-  slots_write = filter_map_alike _ _ (firsts bytes_eq (map (λ t. t.0) ts)) (firsts_all bytes_eq _ (map (λ t. t.0) ts) (touched_all _ ts found_writes))
-
-module _ {A E : Type 0} (same : A → A → Bool) (rules : Rules A E) (values : Values A) (ops : List AnyOp) (ts : List (List ℕ × Change E)) where
-  no_commit : (key : List ℕ) (s : Slot A) (rest : List AnyOp) → AllByRecursion (λ op. any_floor op ≡ None) rest → AllByRecursion (λ op. any_floor op ≡ None) (cons_option (written values key s) rest)
-  no_commit key Keep rest r = r
-  no_commit key Remove rest r = (refl, r)
-  no_commit key (Put a) rest r = (refl, r)
-
-  no_commits : (ks : List (List ℕ)) → AllByRecursion (λ op. any_floor op ≡ None) (filter_map (λ key. written values key (slot_at same rules values ops ts key)) ks)
-  no_commits [] = tt
-  no_commits (k ∷ ks) = no_commit k (slot_at same rules values ops ts k) _ (no_commits ks)
-
-  batch_ends : (f : ℕ) (xs : List AnyOp) → AllByRecursion (λ op. any_floor op ≡ None) xs → batch_floor any_floor (xs ++ CommitFloor None f ∷ []) ≡ Some f
-  batch_ends f [] h = refl
-  batch_ends f (x ∷ []) h = ap (λ o. cond (is_some o) None (Some f)) h.0
-  batch_ends f (x ∷ y ∷ ys) h = ap (λ o. cond (is_some o) None (batch_floor any_floor ((y ∷ ys) ++ CommitFloor None f ∷ []))) h.0 ∙ batch_ends f (y ∷ ys) h.1
-
-  -- the changes and a commit are a batch with this floor
-  pub changes_end : (f : ℕ) → batch_floor any_floor (changed same rules values ops ts ++ CommitFloor None f ∷ []) ≡ Some f
-  changes_end f = batch_ends f (changed same rules values ops ts) (no_commits (firsts bytes_eq (map (λ t. t.0) ts)))
+  -- the slots of the touched keys make what the touches make
+  pub slots_make : (keys : List (List ℕ)) (slots : List (Slot A)) → keys ≡ touched_first ts → AreSettled bytes_eq same rules keys (opening_of rules accounts) ts slots → with_slots values ops keys slots ≡ with_touches same rules values ops ts
+  slots_make keys slots e are =
+      ap (λ xs. ops ++ (xs ++ CommitFloor None (floor_of ops) ∷ [])) (zip_written values (slot_at same rules values ops ts) keys slots are.all (λ i k s p q. slot_writes k s (are.each i k s p q))
+      ∙ ap (filter_map (λ key. written values key (slot_at same rules values ops ts key))) e)
 
 not_less : (a b : ℕ) → b ≤ a → nat_lt a b ≡ false
 not_less a b h = search (arith, h)
@@ -152,30 +174,30 @@ pub full_or_memory : (size n : ℕ) (fault : LogFault) → (fault ≡ LogMemory)
 full_or_memory size n fault (inl e) = subst IsFullOrMemory (sym e) tt
 full_or_memory size n fault (inr (e, h)) = subst IsFullOrMemory (sym e) tt
 
-module _ {A E : Type 0} (same : A → A → Bool) (rules : Rules A E) (values : Values A) (log : LogView AnyOp) (ts : List (List ℕ × Change E)) where
-  pub append_fails : (i : ℕ) (batch : List AnyOp) (fault : LogFault) → batch ≡ appended same rules values log.ops ts → (fault ≡ LogMemory) ⊎ ((fault ≡ LogFull (log_size log)) × (2 ^ 62 < log_size log + length batch))
-      → AppendFails same rules values log i ts (append_fault i fault)
-  append_fails i batch fault e (inl m) = subst (λ x. AppendFails same rules values log i ts (append_fault i x)) (sym m) tt
+module _ {A : Type 0} (values : Values A) (log : LogView AnyOp) (keys : List (List ℕ)) (slots : List (Slot A)) where
+  pub append_fails : (i : ℕ) (batch : List AnyOp) (fault : LogFault) → batch ≡ writes_of values keys slots ++ CommitFloor None (floor_of log.ops) ∷ [] → (fault ≡ LogMemory) ⊎ ((fault ≡ LogFull (log_size log)) × (2 ^ 62 < log_size log + length batch))
+      → AppendFails log i (with_slots values log.ops keys slots) (append_fault i fault)
+  append_fails i batch fault e (inl m) = subst (λ x. AppendFails log i (with_slots values log.ops keys slots) (append_fault i x)) (sym m) tt
   append_fails i batch fault e (inr (m, h)) =
-      let long : 2 ^ 62 < log.front + length (with_touches same rules values log.ops ts) =
-      subst (λ n. 2 ^ 62 < n) (ap (λ b. log.front + length log.ops + length b) e ∙ added log.front (length log.ops) (length (appended same rules values log.ops ts)) ∙ ap (λ n. log.front + n) (sym (length-append log.ops (appended same rules values log.ops ts)))) h in
-      subst (λ x. AppendFails same rules values log i ts (append_fault i x)) (sym m) (refl, long)
+      let made = writes_of values keys slots ++ CommitFloor None (floor_of log.ops) ∷ [] in
+      let long : 2 ^ 62 < log.front + length (with_slots values log.ops keys slots) =
+      subst (λ n. 2 ^ 62 < n) (ap (λ b. log.front + length log.ops + length b) e ∙ added log.front (length log.ops) (length made) ∙ ap (λ n. log.front + n) (sym (length-append log.ops made))) h in
+      subst (λ x. AppendFails log i (with_slots values log.ops keys slots) (append_fault i x)) (sym m) (refl, long)
     where
       added : (a b c : ℕ) → a + b + c ≡ a + (b + c)
       added a b c = omega arith
 
-  -- the operations made and a commit are what the touches append
-  pub batch_is : (order : List (List ℕ)) (made batch : List AnyOp) (f : ℕ) (find : List ℕ → Option AnyOp) → order ≡ firsts bytes_eq (map (λ t. t.0) ts) → made ≡ filter_map find order
-      → filter_map find (firsts bytes_eq (map (λ t. t.0) ts)) ≡ changed same rules values log.ops ts → batch ≡ made ++ CommitFloor None f ∷ [] → last_floor any_floor log.ops ≡ Some f
-      → batch ≡ appended same rules values log.ops ts
-  batch_is order made batch f find o m w b l =
-      b ∙ ap (λ xs. xs ++ CommitFloor None f ∷ []) (m ∙ ap (filter_map find) o ∙ w) ∙ ap (λ g. changed same rules values log.ops ts ++ CommitFloor None g ∷ []) (sym (floor_is log.ops f l))
+  -- the operations made and a commit that keeps the floor
+  pub batch_is : (made batch : List AnyOp) (f : ℕ) → made ≡ writes_of values keys slots → batch ≡ made ++ CommitFloor None f ∷ [] → last_floor any_floor log.ops ≡ Some f
+      → batch ≡ writes_of values keys slots ++ CommitFloor None (floor_of log.ops) ∷ []
+  batch_is made batch f m b l =
+      b ∙ ap (λ xs. xs ++ CommitFloor None f ∷ []) m ∙ ap (λ g. writes_of values keys slots ++ CommitFloor None g ∷ []) (sym (floor_is log.ops f l))
 
-  pub batch_ends_with : (batch : List AnyOp) (f : ℕ) → batch ≡ appended same rules values log.ops ts → last_floor any_floor log.ops ≡ Some f → batch_floor any_floor batch ≡ Some f
-  batch_ends_with batch f e l = ap (batch_floor any_floor) e ∙ changes_end same rules values log.ops ts (floor_of log.ops) ∙ ap Some (floor_is log.ops f l)
+  pub batch_ends_with : (batch : List AnyOp) (f : ℕ) → batch ≡ writes_of values keys slots ++ CommitFloor None (floor_of log.ops) ∷ [] → last_floor any_floor log.ops ≡ Some f → batch_floor any_floor batch ≡ Some f
+  batch_ends_with batch f e l = ap (batch_floor any_floor) e ∙ batch_ends (floor_of log.ops) (writes_of values keys slots) (no_commits values keys slots) ∙ ap Some (floor_is log.ops f l)
 
   -- the accounts stand behind the commit, too
-  pub replay_batch : (accounts : BTreeMap (List ℕ) A) (made batch all : List AnyOp) (f : ℕ) → IsReplay same values accounts (log.ops ++ made) → batch ≡ made ++ CommitFloor None f ∷ [] → all ≡ log.ops ++ batch
+  pub replay_batch : (same : A → A → Bool) (accounts : BTreeMap (List ℕ) A) (made batch all : List AnyOp) (f : ℕ) → IsReplay same values accounts (log.ops ++ made) → batch ≡ made ++ CommitFloor None f ∷ [] → all ≡ log.ops ++ batch
       → IsReplay same values accounts all
-  replay_batch accounts made batch all f r b a =
+  replay_batch same accounts made batch all f r b a =
       subst (IsReplay same values accounts) (append_assoc log.ops made (CommitFloor None f ∷ []) ∙ ap (λ xs. log.ops ++ xs) (sym b) ∙ sym a) (replay_commit same values (log.ops ++ made) accounts None f r)

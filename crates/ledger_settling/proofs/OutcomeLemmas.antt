@@ -1,15 +1,18 @@
 -- Accounts that are the same.
-use Rattle.std.proofs.Common.{◌≡◌, ℕ, Bool, true, false, not, cond, ◌||◌, List, [], ◌∷◌, ◌++◌, length, slice_get, Option, None, Some, refl, sym, ap, subst, ◌∙◌, inl, inr, filter}
+use Rattle.std.proofs.Common.{◌≡◌, ℕ, Bool, true, false, not, cond, ◌||◌, List, [], ◌∷◌, ◌++◌, length, slice_get, Option, None, Some, refl, sym, ap, subst, ◌∙◌, inl, inr, filter, map, bytes_eq, append_assoc}
 use Rattle.std.specs.Cmp.{IsEquivalence}
 use Rattle.std.specs.List.{list_any}
 use Rattle.std.specs.BTreeMap.{BTreeMap}
 use Rattle.std.proofs.lemmas.List.Elements.{filter-append}
 use Rattle.std.proofs.lemmas.List.{append-nil}
 use Rattle.ledger_strategy.proofs.PartsLemmas.{slice_get_push_cases}
-use Rattle.indexmap.specs.IndexSet.{insert_key}
+use Rattle.indexmap.specs.IndexSet.{insert_key, insert_all}
+use Rattle.std.specs.Cmp.Lexicographic.{nat_list_eq_equiv}
+use Rattle.ledger_transfers.specs.declared.change.Change.{Change}
+use Rattle.ledger_transfers.specs.Registering.{touched}
 use Rattle.ledger_transfers.specs.Rules.{SameOutcome}
 use Rattle.ledger_settling.specs.Blocks.{firsts}
-use Rattle.ledger_settling.specs.Slots.{AreReads}
+use Rattle.ledger_settling.specs.Slots.{AreReads, touched_first}
 use Rattle.ledger_settling.specs.Reports.{held}
 
 module _ {A : Type 0} (same : A → A → Bool) (equiv : IsEquivalence same) where
@@ -64,6 +67,14 @@ module _ {K : Type 0} (eq : K → K → Bool) (laws : IsEquivalence eq) where
       by false e =
           kept q k (firsts eq qs) (list_any (eq k) (firsts eq qs)) (laws.symm q k ∙ e)
           ∙ ap (λ b. cond b (q ∷ filter (λ x. not (eq q x)) (firsts eq qs)) ((q ∷ filter (λ x. not (eq q x)) (firsts eq qs)) ++ k ∷ [])) (sym (any_filter q k (firsts eq qs) e))
+
+-- keys that are taken up one by one, each where it is new
+inserted_is : (ks qs : List (List ℕ)) → insert_all bytes_eq (firsts bytes_eq ks) qs ≡ firsts bytes_eq (ks ++ qs)
+inserted_is ks [] = ap (firsts bytes_eq) (sym (append-nil ks))
+inserted_is ks (q ∷ qs) = ap (λ us. insert_all bytes_eq us qs) (sym (firsts_push bytes_eq nat_list_eq_equiv ks q)) ∙ inserted_is (ks ++ q ∷ []) qs ∙ ap (firsts bytes_eq) (append_assoc ks (q ∷ []) qs)
+
+pub touched_is : {E : Type 0} (ts : List (List ℕ × Change E)) → touched bytes_eq [] ts ≡ touched_first ts
+touched_is ts = inserted_is [] (map (λ t. t.0) ts)
 
 Some_injective : {X : Type 0} (x y : X) → Some x ≡ Some y → x ≡ y
 Some_injective x y h = cc

@@ -1,15 +1,18 @@
 -- Rounds chosen by a selection, against the accounts that a block opens with.
-use Rattle.std.proofs.Common.{◌≡◌, ℕ, zero, suc, ◌<◌, Bool, true, List, [], ◌∷◌, ◌++◌, length, map, get_or, slice_get, Option, None, Some, refl, sym, ap, subst, ◌∙◌, bytes_eq, arith, append_assoc, true≢false}
-use Rattle.std.specs.Prelude.{IsSome, is_some, position, option_and_then, ⊤}
+use Rattle.std.proofs.Common.{◌≡◌, ℕ, zero, suc, ◌<◌, Bool, true, List, [], ◌∷◌, ◌++◌, length, map, get_or, slice_get, Option, None, Some, refl, sym, ap, subst, ◌∙◌, bytes_eq, inl, inr, arith, append_assoc, true≢false}
+use Rattle.std.specs.Prelude.{IsSome, is_some, position, option_and_then, unwrap_or, ⊤}
 use Rattle.std.specs.List.{All, AllByRecursion}
 use Rattle.std.specs.Map.{lookup}
 use Rattle.std.specs.Cmp.{IsEquivalence}
 use Rattle.std.specs.Cmp.Lexicographic.{nat_list_eq_equiv, bytes_decides}
 use Rattle.std.specs.BTreeMap.{BTreeMap}
 use Rattle.std.proofs.lemmas.List.{append-nil}
-use Rattle.std.proofs.lemmas.List.Elements.{All-append}
+use Rattle.std.proofs.lemmas.List.Elements.{All-append, All-from_recursion}
 use Rattle.std.proofs.lemmas.List.Quantifiers.{position-Some}
-use Rattle.std.proofs.lemmas.Option.{slice_get-get_or}
+use Rattle.std.proofs.lemmas.List.{length-map}
+use Rattle.std.proofs.lemmas.Option.{slice_get-get_or, slice_get-map}
+use Rattle.ledger_strategy.proofs.PartsLemmas.{slice_get_push_cases}
+use Rattle.std.specs.Option.{option_map}
 use Rattle.indexmap.proofs.MapLemmas.{some_index}
 use Rattle.ledger_log.specs.View.{LogView}
 use Rattle.ledger_log.specs.declared.any.AnyOp.{AnyOp}
@@ -17,25 +20,27 @@ use Rattle.ledger_job.specs.declared.block.Block.TheVariants.{Rounds}
 use Rattle.ledger_job.specs.declared.block.BlockVerdicts.TheVariants.{Rounds as Verdicts}
 use Rattle.ledger_transfers.specs.Rules.{Rules, AccountLaws}
 use Rattle.ledger_transfers.specs.Touches.{touches, total_of}
-use Rattle.ledger_transfers.specs.Settling.{opened, SettlesTo}
+use Rattle.ledger_transfers.specs.Settling.{opened, SettlesTo, SameSlot}
 use Rattle.ledger_transfers.specs.Selecting.{StandsFor, SettledBy, opened_at}
 use Rattle.ledger_transfers.specs.Registering.{AreSettled}
 use Rattle.ledger_transfers.specs.Greedy.{AreGreedy, taken, IsChosen}
 use Rattle.ledger_transfers.specs.declared.change.Change.{Change}
 use Rattle.ledger_transfers.specs.declared.held.Held.{Held}
 use Rattle.ledger_transfers.specs.declared.slot.Slot.{Slot}
+use Rattle.ledger_transfers.specs.declared.slot.Slot.TheVariants.{Keep}
 use Rattle.ledger_transfers.proofs.TouchesLemmas.{touches_cons, touches_append}
 use Rattle.ledger_transfers.proofs.VerdictLemmas.{all_left, all_right}
 use Rattle.ledger_transfers.proofs.SettleLemmas.{settles_same}
 use Rattle.ledger_transfers.proofs.DecideLemmas.{registered_at}
-use Rattle.ledger_settling.specs.Blocks.{Meaning, IsSettled, Settles as BlockSettles, joined, account_at}
+use Rattle.ledger_settling.specs.Blocks.{Meaning, grown, IsSettled, Settles as BlockSettles, joined, account_at}
 use Rattle.ledger_settling.specs.Reports.{held, IsReplay}
 use Rattle.ledger_settling.specs.Rounds.{AreOpened, AreChosen, SettlesOn}
-use Rattle.ledger_settling.specs.Slots.{AreSlotsOf, opening_of, AppendFails, BlockFails}
+use Rattle.ledger_settling.specs.Slots.{AreFound, opening_of, touched_first, AppendFails, BlockFails}
 use Rattle.ledger_settling.specs.declared.fault.ReportFault.{ReportFault}
 use Rattle.ledger_settling.specs.declared.fault.ReportFault.TheVariants.{BadLog, BadValue, Rejected, Full, OutOfMemory}
 use Rattle.ledger_settling.proofs.ChoiceLemmas.{taken_append, greedy_append, greedy_alike}
-use Rattle.ledger_settling.proofs.SlotLemmas.{settles_alike, opened_alike, opens_alike}
+use Rattle.ledger_settling.proofs.AppendLemmas.{firsts_all, touched_all}
+use Rattle.ledger_settling.proofs.SlotLemmas.{settles_alike, settles_copy, opened_alike, opens_alike, within_of}
 
 module _ {T A E : Type 0} (same : A → A → Bool) (rules : Rules A E) (changes_of : T → List (List ℕ × Change E)) (accounts : BTreeMap (List ℕ) A) where
   -- no candidates
@@ -108,32 +113,51 @@ module _ {A E : Type 0} (same : A → A → Bool) (equiv : IsEquivalence same) (
           c.1,
         )
 
-  -- the slots of a selection are those of what it took
-  pub slots_selected : (ts : List (List ℕ × Change E)) (slots : List (Slot A)) → StandsFor bytes_eq same rules es ts → AreSettled bytes_eq same rules keys (opened_at bytes_eq same rules es) ts slots
-      → AreSlotsOf same rules (opening_of rules accounts) ts keys slots
-  slots_selected ts slots stands are = record {
-    covers = λ key t. covered key (position (bytes_eq key) keys) refl (indexed key ∙ registered_at bytes_eq nat_list_eq_equiv same rules es ts key stands.registered t);
-    each = λ key slot h. placed key slot (position (bytes_eq key) keys) refl h;
+  -- the slots of a selection, found for the keys that it took, are those of what it took
+  pub slots_taken : (ts : List (List ℕ × Change E)) (slots : List (Slot A)) (order : List (List ℕ)) (places : List (Option ℕ)) (found : List (Slot A)) → StandsFor bytes_eq same rules es ts
+      → AreSettled bytes_eq same rules keys (opened_at bytes_eq same rules es) ts slots → order ≡ touched_first ts → places ≡ map (λ key. position (bytes_eq key) keys) order → length found ≡ length places → AreFound same slots places found
+      → AreSettled bytes_eq same rules order (opening_of rules accounts) ts found
+  slots_taken ts slots order places found stands are first stand many has = record {
+    all = many ∙ ap length stand ∙ length-map order (λ key. position (bytes_eq key) keys);
+    each = λ i key slot p q. placed i key slot p q (position (bytes_eq key) keys) refl;
   }
     where
       indexed : (key : List ℕ) → is_some (position (bytes_eq key) keys) ≡ is_some (lookup (bytes_eq key) es)
       indexed key = ap (λ ks. is_some (position (bytes_eq key) ks)) (sym o.all) ∙ some_index (bytes_eq key) es
 
-      covered : (key : List ℕ) (p : Option ℕ) → position (bytes_eq key) keys ≡ p → is_some (position (bytes_eq key) keys) ≡ true → IsSome (option_and_then (slice_get slots) p)
-      covered key None e h = absurd (true≢false (sym h ∙ ap is_some e))
-      covered key (Some i) e h =
-          let within = (position-Some (bytes_eq key) keys i key e).0 in
-          subst IsSome (sym (slice_there slots i (omega (arith, within, are.all))).1) refl
+      there : AllByRecursion (λ k. IsSome (lookup (bytes_eq k) es)) order
+      there = subst (AllByRecursion (λ k. IsSome (lookup (bytes_eq k) es))) (sym first)
+          (firsts_all bytes_eq (λ k. IsSome (lookup (bytes_eq k) es)) (map (λ t. t.0) ts) (touched_all (λ k. IsSome (lookup (bytes_eq k) es)) ts (λ k t. registered_at bytes_eq nat_list_eq_equiv same rules es ts k stands.registered t)))
 
-      placed : (key : List ℕ) (slot : Slot A) (p : Option ℕ) → position (bytes_eq key) keys ≡ p → option_and_then (slice_get slots) p ≡ Some slot → SettlesTo same rules (opening_of rules accounts key) (total_of bytes_eq ts key) slot
-      placed key slot None e h = absurd (true≢false (sym (ap is_some h)))
-      placed key slot (Some i) e h =
-          let first = position-Some (bytes_eq key) keys i key e in
-          let there = slice_there keys i first.0 in
-          let key_is : key ≡ there.0 = (bytes_decides key there.0).0 (ap (bytes_eq key) (sym (at_place keys i there.0 key there.1)) ∙ first.1) in
-          let found : IsSome (lookup (bytes_eq key) es) = sym (indexed key) ∙ ap is_some e in
-          settles_alike same equiv rules laws (opened_at bytes_eq same rules es key) (opening_of rules accounts key) (total_of bytes_eq ts key) slot (opens_with key found)
-          (are.each i key slot (there.1 ∙ ap Some (sym key_is)) h)
+      registered : (i : ℕ) (key : List ℕ) → slice_get order i ≡ Some key → IsSome (lookup (bytes_eq key) es)
+      registered i key p = subst (λ k. IsSome (lookup (bytes_eq k) es)) (at_place order i key key p) (All-from_recursion (λ k. IsSome (lookup (bytes_eq k) es)) order there i key (within_of order i key p))
+
+      placed : (i : ℕ) (key : List ℕ) (slot : Slot A) → slice_get order i ≡ Some key → slice_get found i ≡ Some slot → (n : Option ℕ) → position (bytes_eq key) keys ≡ n → SettlesTo same rules (opening_of rules accounts key) (total_of bytes_eq ts key) slot
+      placed i key slot p q None e = absurd (true≢false (sym (registered i key p) ∙ sym (indexed key) ∙ ap is_some e))
+      placed i key slot p q (Some n) e =
+          let at = position-Some (bytes_eq key) keys n key e in
+          let k = slice_there keys n at.0 in
+          let key_is : key ≡ k.0 = (bytes_decides key k.0).0 (ap (bytes_eq key) (sym (at_place keys n k.0 key k.1)) ∙ at.1) in
+          let s = slice_there slots n (omega (arith, at.0, are.all)) in
+          let place : slice_get places i ≡ Some (Some n) = ap (λ ps. slice_get ps i) stand ∙ slice_get-map (λ key. position (bytes_eq key) keys) order i ∙ ap (option_map (λ key. position (bytes_eq key) keys)) p ∙ ap Some e in
+          settles_copy same equiv rules laws (opening_of rules accounts key) (total_of bytes_eq ts key) s.0 slot (has i n s.0 slot place s.1 q)
+          (settles_alike same equiv rules laws (opened_at bytes_eq same rules es key) (opening_of rules accounts key) (total_of bytes_eq ts key) s.0 (opens_with key (registered i key p))
+          (are.each n key s.0 (k.1 ∙ ap Some (sym key_is)) s.1))
+
+-- one slot more, found at its place
+pub AreFound-push : {A : Type 0} (same : A → A → Bool) (slots : List (Slot A)) (places : List (Option ℕ)) (found : List (Slot A)) (place : Option ℕ) (slot : Slot A)
+    → AreFound same slots places found → slice_get places (length found) ≡ Some place → SameSlot same slot (unwrap_or (option_and_then (slice_get slots) place) Keep) → AreFound same slots places (found ++ slot ∷ [])
+AreFound-push same slots places found place slot h at like i p s t a b q =
+    elim (slice_get_push_cases found slot t i q) [
+      | inl old ↦ h i p s t a b old
+      | inr new ↦
+          let here : place ≡ Some p = one place (Some p) (sym at ∙ ap (slice_get places) (sym new.0) ∙ a) in
+          let is : unwrap_or (option_and_then (slice_get slots) place) Keep ≡ s = ap (λ n. unwrap_or (option_and_then (slice_get slots) n) Keep) here ∙ ap (λ o. unwrap_or o Keep) b in
+          subst (λ x. SameSlot same x s) new.1 (subst (SameSlot same slot) is like)
+    ]
+  where
+    one : {X : Type 0} (x y : X) → Some x ≡ Some y → x ≡ y
+    one x y h = cc
 
 module _ {T A E : Type 0} (m : Meaning T A E) where
   module _ (equiv : IsEquivalence m.same) (laws : AccountLaws m.same m.rules) (accounts : BTreeMap (List ℕ) A) (ops : List AnyOp) (replay : IsReplay m.same m.values accounts ops) where
@@ -161,7 +185,7 @@ module _ {T A E : Type 0} (m : Meaning T A E) where
 
   -- what keeps chosen rounds from being appended keeps the block from settling
   pub rounds_fail : (log : LogView AnyOp) (i : ℕ) (rounds : List (List T)) (verdicts : List (List Bool)) (fault : ReportFault) → BlockSettles m log.ops (Rounds rounds) (Verdicts verdicts)
-      → AppendFails m.same m.rules m.values log i (touches m.changes_of (taken (joined rounds) (joined verdicts))) fault → BlockFails m log i (Rounds rounds) fault
+      → AppendFails log i (grown m log.ops (taken (joined rounds) (joined verdicts))) fault → BlockFails m log i (Rounds rounds) fault
   rounds_fail log i rounds verdicts (BadLog location) s h = h
   rounds_fail log i rounds verdicts (BadValue location) s h = h
   rounds_fail log i rounds verdicts (Rejected j r) s h = absurd h

@@ -1,5 +1,5 @@
 -- The slots of a plan, seen from the keys.
-use Rattle.std.proofs.Common.{◌≡◌, ℕ, zero, suc, ◌||◌, ◌⊎◌, ◌+◌, ◌-◌, ◌<◌, ◌≤◌, Bool, true, false, cond, List, [], ◌∷◌, length, get_or, slice_get, Option, None, Some, refl, sym, ap, subst, ◌∙◌, bytes_eq, inl, inr, filter, not, arith}
+use Rattle.std.proofs.Common.{◌≡◌, ℕ, zero, suc, ◌||◌, ◌⊎◌, ◌+◌, ◌-◌, ◌<◌, ◌≤◌, Bool, true, false, cond, List, [], ◌∷◌, length, get_or, slice_get, Option, None, Some, refl, sym, ap, subst, ◌∙◌, bytes_eq, inl, inr, filter, map, not, arith, true≢false}
 use Rattle.std.specs.Prelude.{IsSome, IsNone, MatchOption, position, is_some, option_and_then}
 use Rattle.std.specs.Option.{option_map}
 use Rattle.std.specs.List.{IsDistinct, list_any, AllByRecursion}
@@ -8,21 +8,22 @@ use Rattle.std.specs.Cmp.{IsEquivalence}
 use Rattle.std.specs.Cmp.Lexicographic.{nat_list_eq_equiv, bytes_decides}
 use Rattle.std.specs.BTreeMap.{BTreeMap}
 use Rattle.std.proofs.lemmas.Map.Entries.{lookup_from_place}
-use Rattle.std.proofs.lemmas.List.Quantifiers.{position-Some}
+use Rattle.std.proofs.lemmas.List.Elements.{All-from_recursion}
 use Rattle.std.proofs.lemmas.Option.{slice_get-map, slice_get-get_or, get_or_from_slice_get}
 use Rattle.std.proofs.lemmas.List.{length-map}
-use Rattle.indexmap.proofs.MapLemmas.{some_index}
 use Rattle.ledger_transfers.specs.Rules.{Rules, AccountLaws, SameOutcome}
 use Rattle.ledger_transfers.specs.Touches.{touches, total_of, IsPlanOf, IsTouched, IsWithinSums, IsSumOffence, max_amount}
-use Rattle.ledger_transfers.specs.Settling.{folded, opened, final_balance, Settled, SettlesTo, SameSlot, slot_of, AreSlots, IsFirstOffence, PlanFails, HasFirstOffence}
+use Rattle.ledger_transfers.specs.Registering.{AreSettled}
+use Rattle.ledger_transfers.specs.Settling.{folded, opened, after, final_balance, Settled, Settles, SettlesTo, SameSlot, slot_of, AreSlots, IsFirstOffence, PlanFails, HasFirstOffence}
 use Rattle.ledger_transfers.specs.declared.change.Change.{Change}
 use Rattle.ledger_transfers.specs.declared.slot.Slot.{Slot}
+use Rattle.ledger_transfers.specs.declared.slot.Slot.TheVariants.{Keep, Delete, Put}
 use Rattle.ledger_transfers.specs.declared.fault.Rejection.{Rejection}
 use Rattle.ledger_transfers.specs.declared.fault.Rejection.TheVariants.{Refused, Insufficient, Overflow}
 use Rattle.ledger_transfers.specs.declared.totals.Totals.{Totals}
-use Rattle.ledger_transfers.proofs.AccountLemmas.{folded_alike}
+use Rattle.ledger_transfers.proofs.AccountLemmas.{folded_alike, same_trans}
 use Rattle.ledger_transfers.proofs.SettleLemmas.{slot_alike}
-use Rattle.ledger_settling.specs.Blocks.{firsts, account_at, Meaning, IsSettled}
+use Rattle.ledger_settling.specs.Blocks.{firsts, account_at, Meaning, IsSettled, grown}
 use Rattle.ledger_transfers.specs.declared.fault.PlanFault.{PlanFault}
 use Rattle.ledger_transfers.specs.declared.fault.PlanFault.TheVariants.{Rejected, OutOfMemory}
 use Rattle.std.specs.Prelude.{OnOk, IfErr, Result, Ok, Err}
@@ -31,22 +32,44 @@ use Rattle.ledger_settling.specs.declared.fault.ReportFault.TheVariants.{BadLog,
 use Rattle.ledger_log.specs.View.{LogView}
 use Rattle.ledger_log.specs.declared.any.AnyOp.{AnyOp}
 use Rattle.ledger_managed.specs.Values.{Values}
-use Rattle.ledger_settling.specs.Slots.{AreReads, AreSlotsOf, slot_found, opening_of, SlotsFail, AppendFails, BodyFails}
+use Rattle.ledger_settling.specs.Slots.{AreReads, opening_of, touched_first, SlotsFail, AppendFails, BodyFails}
 use Rattle.ledger_settling.specs.Reports.{held, IsReplay}
 
 slice_there : {X : Type 0} (xs : List X) (i : ℕ) → i < length xs → (x : X) × (slice_get xs i ≡ Some x)
 slice_there [] i h = absurd (omega arith)
 slice_there (x ∷ xs) i h = (get_or (x ∷ xs) i x, slice_get-get_or (x ∷ xs) i x h)
 
-module _ {K : Type 0} (eq : K → K → Bool) where
-  filter_apart : (k : K) (ks : List K) → AllByRecursion (λ q. eq k q ≡ false) ks → filter (λ q. not (eq k q)) ks ≡ ks
-  filter_apart k [] h = refl
-  filter_apart k (q ∷ qs) h = ap (λ b. cond (not b) (q ∷ filter (λ q. not (eq k q)) qs) (filter (λ q. not (eq k q)) qs)) h.0 ∙ ap (λ xs. q ∷ xs) (filter_apart k qs h.1)
+pub within_of : {X : Type 0} (xs : List X) (i : ℕ) (x : X) → slice_get xs i ≡ Some x → i < length xs
+within_of [] i x h = absurd (true≢false (sym (ap is_some h)))
+within_of (y ∷ xs) zero x h = omega arith
+within_of (y ∷ xs) (suc i) x h = let w = within_of xs i x h in omega (arith, w)
 
-  pub firsts_distinct : (ks : List K) → IsDistinct eq ks → firsts eq ks ≡ ks
-  unfolding IsDistinct
-  firsts_distinct [] h = refl
-  firsts_distinct (k ∷ ks) h = ap (λ xs. k ∷ filter (λ q. not (eq k q)) xs) (firsts_distinct ks h.1) ∙ ap (λ xs. k ∷ xs) (filter_apart k ks h.0)
+Some_injective : {X : Type 0} (x y : X) → Some x ≡ Some y → x ≡ y
+Some_injective x y h = cc
+
+-- what each key of a place with a slot has, each key has
+each_key : {K S : Type 0} (Q : K → Type 0) (ks : List K) (ss : List S) → length ss ≡ length ks → ((i : ℕ) (k : K) (s : S) → slice_get ks i ≡ Some k → slice_get ss i ≡ Some s → Q k) → AllByRecursion Q ks
+each_key Q [] ss l h = tt
+each_key Q (k ∷ ks) [] l h = absurd (omega (arith, l))
+each_key Q (k ∷ ks) (s ∷ ss) l h = (h 0 k s refl refl, each_key Q ks ss (omega (arith, l)) (λ i q t a b. h (suc i) q t a b))
+
+-- what holds of the first places of keys holds of all their places
+unfilter : (Q : List ℕ → Type 0) (k : List ℕ) (xs : List (List ℕ)) → Q k → AllByRecursion Q (filter (λ q. not (bytes_eq k q)) xs) → AllByRecursion Q xs
+unfilter Q k [] here h = tt
+unfilter Q k (x ∷ xs) here h = by (bytes_eq k x) refl h (unfilter Q k xs here)
+  where
+    by : (b : Bool) → bytes_eq k x ≡ b → AllByRecursion Q (cond (not b) (x ∷ filter (λ q. not (bytes_eq k q)) xs) (filter (λ q. not (bytes_eq k q)) xs))
+        → (AllByRecursion Q (filter (λ q. not (bytes_eq k q)) xs) → AllByRecursion Q xs) → AllByRecursion Q (x ∷ xs)
+    by true e h rest = (subst Q ((bytes_decides k x).0 e) here, rest h)
+    by false e h rest = (h.0, rest h.1)
+
+unfirst : (Q : List ℕ → Type 0) (ks : List (List ℕ)) → AllByRecursion Q (firsts bytes_eq ks) → AllByRecursion Q ks
+unfirst Q [] h = tt
+unfirst Q (k ∷ ks) h = (h.0, unfirst Q ks (unfilter Q k (firsts bytes_eq ks) h.0 h.1))
+
+of_touches : {E : Type 0} (Q : List ℕ → Type 0) (ts : List (List ℕ × Change E)) → AllByRecursion Q (map (λ t. t.0) ts) → AllByRecursion (λ (t : List ℕ × Change E). Q t.0) ts
+of_touches Q [] h = tt
+of_touches Q (t ∷ ts) h = (h.0, of_touches Q ts h.1)
 
 module _ {A E : Type 0} (same : A → A → Bool) (equiv : IsEquivalence same) (rules : Rules A E) (laws : AccountLaws same rules) where
   -- accounts that are the same have the same slot
@@ -72,6 +95,27 @@ module _ {A E : Type 0} (same : A → A → Bool) (equiv : IsEquivalence same) (
             slot_is = subst (λ r. MatchOption (option_map (λ x. rules.with_balance x (final_balance rules b total)) r) ⊥ (λ e. SameSlot same slot (slot_of same rules b e))) (sym f)
                 (slot_alike same equiv rules laws a b (rules.with_balance x (final_balance rules a total)) (rules.with_balance y (final_balance rules b total)) slot k ends t);
           }
+
+  slot_trans : (t s u : Slot A) → SameSlot same t s → SameSlot same s u → SameSlot same t u
+  slot_trans Keep Keep u h k = k
+  slot_trans Keep Delete u h k = absurd h
+  slot_trans Keep (Put b) u h k = absurd h
+  slot_trans Delete Keep u h k = absurd h
+  slot_trans Delete Delete u h k = k
+  slot_trans Delete (Put b) u h k = absurd h
+  slot_trans (Put a) Keep u h k = absurd h
+  slot_trans (Put a) Delete u h k = absurd h
+  slot_trans (Put a) (Put b) Keep h k = absurd k
+  slot_trans (Put a) (Put b) Delete h k = absurd k
+  slot_trans (Put a) (Put b) (Put c) h k = same_trans same equiv rules laws a b c h k
+
+  -- a copy of a slot serves as well
+  pub settles_copy : (a : A) (total : Totals E) (s t : Slot A) → SameSlot same t s → SettlesTo same rules a total s → SettlesTo same rules a total t
+  settles_copy a total s t like h = record { settles = h.settles; slot_is = by (after rules a total) h.slot_is }
+    where
+      by : (o : Option A) → MatchOption o ⊥ (λ e. SameSlot same s (slot_of same rules a e)) → MatchOption o ⊥ (λ e. SameSlot same t (slot_of same rules a e))
+      by None k = k
+      by (Some e) k = slot_trans t s (slot_of same rules a e) like k
 
   none_alike : (r s : Option A) → SameOutcome same r s → IsNone r → IsNone s
   none_alike None None o h = h
@@ -132,54 +176,26 @@ module _ {A E : Type 0} (same : A → A → Bool) (equiv : IsEquivalence same) (
 
   -- a plan's slots are the batch's
   pub slots_of_plan : (reads : List (Option A)) (slots : List (Slot A)) → length reads ≡ length plan → AreReads same accounts (keys_of plan) reads → AreSlots same rules plan reads slots
-      → AreSlotsOf same rules (opening_of rules accounts) ts (keys_of plan) slots
-  slots_of_plan reads slots n a s = record {
-    covers = λ key h.
-        let looked : is_some (lookup (bytes_eq key) plan) ≡ true = ap is_some (is_plan.each key ∙ ap (λ b. cond b (Some (total_of bytes_eq ts key)) None) h) in
-        covered key (position (bytes_eq key) (keys_of plan)) refl (some_index (bytes_eq key) plan ∙ looked);
-    each = λ key slot h. placed key slot (position (bytes_eq key) (keys_of plan)) refl h;
-  }
+      → AreSettled bytes_eq same rules (keys_of plan) (opening_of rules accounts) ts slots
+  slots_of_plan reads slots n a s = record { all = s.all ∙ sym (length-map plan (λ (e : List ℕ × Totals E). e.0)); each = placed }
     where
-      covered : (key : List ℕ) (o : Option ℕ) → position (bytes_eq key) (keys_of plan) ≡ o → is_some o ≡ true → IsSome (option_and_then (slice_get slots) o)
-      covered key None e h = absurd cc
-      covered key (Some i) e h =
-          let within = (position-Some (bytes_eq key) (keys_of plan) i key e).0 in
-          let long : i < length slots = omega (arith, length-map plan (λ (e : List ℕ × Totals E). e.0), s.all) in
-          subst IsSome (sym (slice_there slots i long).1) refl
-
-      placed : (key : List ℕ) (slot : Slot A) (o : Option ℕ) → position (bytes_eq key) (keys_of plan) ≡ o → option_and_then (slice_get slots) o ≡ Some slot
-          → SettlesTo same rules (opening_of rules accounts key) (total_of bytes_eq ts key) slot
-      placed key slot None e h = absurd cc
-      placed key slot (Some i) e h =
-          let first = position-Some (bytes_eq key) (keys_of plan) i key e in
-          let within : i < length plan = omega (arith, first.0, length-map plan (λ (e : List ℕ × Totals E). e.0)) in
+      placed : (i : ℕ) (key : List ℕ) (slot : Slot A) → slice_get (keys_of plan) i ≡ Some key → slice_get slots i ≡ Some slot → SettlesTo same rules (opening_of rules accounts key) (total_of bytes_eq ts key) slot
+      placed i key slot p q =
+          let within : i < length plan = omega (arith, within_of (keys_of plan) i key p, length-map plan (λ (e : List ℕ × Totals E). e.0)) in
           let entry = slice_there plan i within in
           let read = slice_there reads i (omega (arith, within, n)) in
           let here = at_place i entry.0 entry.1 in
-          let key_is : key ≡ entry.0.0 = (bytes_decides key entry.0.0).0 (ap (bytes_eq key) (sym (get_or_from_slice_get (keys_of plan) i entry.0.0 key (key_at i entry.0 entry.1))) ∙ first.1) in
+          let key_is : entry.0.0 ≡ key = Some_injective entry.0.0 key (sym (key_at i entry.0 entry.1) ∙ p) in
           let alike = opened_alike same equiv rules laws read.0 (held accounts entry.0.0) (a i entry.0.0 read.0 (key_at i entry.0 entry.1) read.1) in
-          subst (λ k. SettlesTo same rules (opening_of rules accounts k) (total_of bytes_eq ts k) slot) (sym key_is)
+          subst (λ k. SettlesTo same rules (opening_of rules accounts k) (total_of bytes_eq ts k) slot) key_is
           (subst (λ t. SettlesTo same rules (opening_of rules accounts entry.0.0) t slot) here.1
-          (settles_alike same equiv rules laws (opened rules read.0) (opening_of rules accounts entry.0.0) entry.0.1 slot alike (s.each i entry.0 read.0 slot entry.1 read.1 h)))
+          (settles_alike same equiv rules laws (opened rules read.0) (opening_of rules accounts entry.0.0) entry.0.1 slot alike (s.each i entry.0 read.0 slot entry.1 read.1 q)))
 
   -- a plan's fault, with want of memory
   pub slots_fail : (reads : List (Option A)) (fault : PlanFault (List ℕ)) → IsWithinSums bytes_eq ts → AreReads same accounts (keys_of plan) reads → PlanFails rules plan reads fault
       → SlotsFail rules (opening_of rules accounts) ts fault
   slots_fail reads (Rejected r) w a f = inr (w, plan_offends reads r a f)
   slots_fail reads OutOfMemory w a f = tt
-
-any_there : {X : Type 0} (p : X → Bool) (xs : List X) (i : ℕ) (d : X) → i < length xs → p (get_or xs i d) ≡ true → list_any p xs ≡ true
-any_there p [] i d l h = absurd (omega arith)
-any_there p (x ∷ xs) zero d l h = ap (λ b. b || list_any p xs) h
-any_there p (x ∷ xs) (suc i) d l h = or_true (p x) (list_any p xs) (any_there p xs i d (omega arith) h)
-  where
-    or_true : (a b : Bool) → b ≡ true → (a || b) ≡ true
-    or_true true b h = refl
-    or_true false b h = h
-
-some_of : {X : Type 0} (o : Option X) → IsSome o → (x : X) × (o ≡ Some x)
-some_of None h = absurd cc
-some_of (Some x) h = (x, refl)
 
 module _ {A E : Type 0} (same : A → A → Bool) (equiv : IsEquivalence same) (rules : Rules A E) (laws : AccountLaws same rules) (values : Values A)
     (accounts : BTreeMap (List ℕ) A) (ops : List AnyOp) (replay : IsReplay same values accounts ops) (ts : List (List ℕ × Change E)) where
@@ -188,13 +204,13 @@ module _ {A E : Type 0} (same : A → A → Bool) (equiv : IsEquivalence same) (
   opens_alike key = opened_alike same equiv rules laws (held accounts key) (account_at values ops key) (replay key)
 
   -- a batch with slots settles
-  pub settled_by_slots : (keys : List (List ℕ)) (slots : List (Slot A)) → AreSlotsOf same rules (opening_of rules accounts) ts keys slots
+  pub settled_by_slots : (keys : List (List ℕ)) (slots : List (Slot A)) → keys ≡ touched_first ts → AreSettled bytes_eq same rules keys (opening_of rules accounts) ts slots
       → Settled bytes_eq rules (λ key. opened rules (account_at values ops key)) ts
-  settled_by_slots keys slots s i d l =
-      let key = (get_or ts i d).0 in
-      let touched : list_any (λ t. bytes_eq key t.0) ts ≡ true = any_there (λ (t : List ℕ × Change E). bytes_eq key t.0) ts i d l (nat_list_eq_equiv.refl key) in
-      let slot = some_of (slot_found keys slots key) (s.covers key touched) in
-      (settles_alike same equiv rules laws (opening_of rules accounts key) (opened rules (account_at values ops key)) (total_of bytes_eq ts key) slot.0 (opens_alike key) (s.each key slot.0 slot.1)).settles
+  settled_by_slots keys slots e s =
+      let Q = λ (k : List ℕ). Settles rules (opened rules (account_at values ops k)) (total_of bytes_eq ts k) in
+      let each : AllByRecursion Q keys = each_key Q keys slots s.all (λ i k slot p q.
+      (settles_alike same equiv rules laws (opening_of rules accounts k) (opened rules (account_at values ops k)) (total_of bytes_eq ts k) slot (opens_alike k) (s.each i k slot p q)).settles) in
+      All-from_recursion (λ (t : List ℕ × Change E). Q t.0) ts (of_touches Q ts (unfirst Q (map (λ t. t.0) ts) (subst (AllByRecursion Q) e each)))
 
   -- an offence against the map is one against the operations
   pub offends_replay : (r : Rejection (List ℕ)) → SlotsFail rules (opening_of rules accounts) ts (Rejected r)
@@ -208,7 +224,7 @@ on_ok (Err e) P p = tt
 
 module _ {T A E : Type 0} (m : Meaning T A E) where
   -- what keeps a settled body from being appended keeps it from settling
-  pub body_fails : {X : Type 0} (log : LogView AnyOp) (i : ℕ) (batch : List T) (r : Result X ReportFault) → IsSettled m log.ops batch → IfErr r (AppendFails m.same m.rules m.values log i (touches m.changes_of batch)) → IfErr r (BodyFails m log i batch)
+  pub body_fails : {X : Type 0} (log : LogView AnyOp) (i : ℕ) (batch : List T) (r : Result X ReportFault) → IsSettled m log.ops batch → IfErr r (AppendFails log i (grown m log.ops batch)) → IfErr r (BodyFails m log i batch)
   body_fails log i batch (Ok x) s h = tt
   body_fails log i batch (Err (BadLog location)) s h = h
   body_fails log i batch (Err (BadValue location)) s h = h

@@ -1,11 +1,13 @@
--- Slots of keys, found by their places.
-use Rattle.std.specs.Prelude.{◌≡◌, ℕ, ◌+◌, ◌^◌, ◌<◌, Bool, List, length, slice_get, position, Option, Some, IsSome, ◌⊎◌, option_and_then, bytes_eq, ⊤}
+-- Slots of keys, in order.
+use Rattle.std.specs.Prelude.{◌≡◌, ℕ, ◌+◌, ◌^◌, ◌<◌, ◌++◌, Bool, List, [], ◌∷◌, length, map, filter_map, slice_get, Option, None, Some, ◌⊎◌, bytes_eq, ⊤}
+use Rattle.std.specs.List.{zip}
 use Rattle.std.specs.BTreeMap.{BTreeMap}
 use Rattle.ledger_log.specs.declared.any.AnyOp.{AnyOp}
+use Rattle.ledger_log.specs.declared.any.AnyOp.TheVariants.{CommitFloor}
 use Rattle.ledger_log.specs.View.{LogView}
 use Rattle.ledger_transfers.specs.Rules.{Rules, SameOutcome}
-use Rattle.ledger_transfers.specs.Touches.{total_of, IsTouched, IsSumOffence, IsWithinSums}
-use Rattle.ledger_transfers.specs.Settling.{opened, SettlesTo, HasFirstOffence}
+use Rattle.ledger_transfers.specs.Touches.{IsSumOffence, IsWithinSums}
+use Rattle.ledger_transfers.specs.Settling.{opened, SameSlot, HasFirstOffence}
 use Rattle.ledger_transfers.specs.declared.change.Change.{Change}
 use Rattle.ledger_transfers.specs.declared.slot.Slot.{Slot}
 use Rattle.ledger_transfers.specs.declared.fault.PlanFault.{PlanFault}
@@ -14,17 +16,13 @@ use Rattle.ledger_settling.specs.Reports.{held}
 use Rattle.ledger_managed.specs.Values.{Values}
 use Rattle.ledger_log.specs.declared.fault.LogFault.{LogFault}
 use Rattle.ledger_log.specs.declared.fault.LogFault.TheVariants.{Full as LogFull, OutOfMemory as LogMemory}
-use Rattle.ledger_settling.specs.Blocks.{Meaning, with_touches, IsSettled, IsOffence, grown, batch_of, Settles}
+use Rattle.ledger_settling.specs.Blocks.{Meaning, firsts, floor_of, written, IsSettled, IsOffence, grown, batch_of, Settles}
 use Rattle.ledger_job.specs.declared.block.Block.{Block}
 use Rattle.ledger_job.specs.declared.block.Block.TheVariants.{Body, Rounds}
 use Rattle.ledger_transfers.specs.declared.fault.Rejection.{Rejection}
 use Rattle.ledger_job.specs.declared.block.BlockVerdicts.{BlockVerdicts}
 use Rattle.ledger_settling.specs.declared.fault.ReportFault.{ReportFault}
 use Rattle.ledger_settling.specs.declared.fault.ReportFault.TheVariants.{BadLog, BadValue, Rejected, Full, OutOfMemory}
-
--- the slot at the key's place
-abbrev pub slot_found : {A : Type 0} → List (List ℕ) → List (Slot A) → List ℕ → Option (Slot A)
-slot_found keys slots key = option_and_then (slice_get slots) (position (bytes_eq key) keys)
 
 -- each read is the account under its key
 abbrev pub AreReads : {A : Type 0} → (A → A → Bool) → BTreeMap (List ℕ) A → List (List ℕ) → List (Option A) → Type 0
@@ -35,19 +33,30 @@ AreReads {A} same accounts keys reads =
 abbrev pub opening_of : {A E : Type 0} → Rules A E → BTreeMap (List ℕ) A → List ℕ → A
 opening_of rules accounts key = opened rules (held accounts key)
 
-module _ {A E : Type 0} (same : A → A → Bool) (rules : Rules A E) where
-  -- each touched key has its slot
-  pub record AreSlotsOf (opening : List ℕ → A) (ts : List (List ℕ × Change E)) (keys : List (List ℕ)) (slots : List (Slot A)) : Type 0 where
-    pub covers : (key : List ℕ) → IsTouched bytes_eq ts key → IsSome (slot_found keys slots key)
-    pub each : (key : List ℕ) (slot : Slot A) → slot_found keys slots key ≡ Some slot → SettlesTo same rules (opening key) (total_of bytes_eq ts key) slot
+-- what the slots of these keys write, in order
+abbrev pub writes_of : {A : Type 0} → Values A → List (List ℕ) → List (Slot A) → List AnyOp
+writes_of values keys slots = filter_map (λ p. written values p.0 p.1) (zip keys slots)
 
--- the operations of settled touches make the log too long, or want of memory
-abbrev pub AppendFails : {A E : Type 0} → (A → A → Bool) → Rules A E → Values A → LogView AnyOp → ℕ → List (List ℕ × Change E) → ReportFault → Type 0
-AppendFails same rules values log i ts (Full j) = (j ≡ i) × (2 ^ 62 < log.front + length (with_touches same rules values log.ops ts))
-AppendFails same rules values log i ts OutOfMemory = ⊤
-AppendFails same rules values log i ts (Rejected j r) = ⊥
-AppendFails same rules values log i ts (BadLog location) = ⊥
-AppendFails same rules values log i ts (BadValue location) = ⊥
+-- the operations with what these slots write, and a commit that keeps the floor
+abbrev pub with_slots : {A : Type 0} → Values A → List AnyOp → List (List ℕ) → List (Slot A) → List AnyOp
+with_slots values ops keys slots = ops ++ (writes_of values keys slots ++ CommitFloor None (floor_of ops) ∷ [])
+
+-- each key of the touches at its first place
+abbrev pub touched_first : {E : Type 0} → List (List ℕ × Change E) → List (List ℕ)
+touched_first ts = firsts bytes_eq (map (λ t. t.0) ts)
+
+-- each slot is that at its place among these, if it has one and there is one
+abbrev pub AreFound : {A : Type 0} → (A → A → Bool) → List (Slot A) → List (Option ℕ) → List (Slot A) → Type 0
+AreFound {A} same slots places found =
+    (i p : ℕ) (s t : Slot A) → slice_get places i ≡ Some (Some p) → slice_get slots p ≡ Some s → slice_get found i ≡ Some t → SameSlot same t s
+
+-- these operations make the log too long, or want of memory
+abbrev pub AppendFails : LogView AnyOp → ℕ → List AnyOp → ReportFault → Type 0
+AppendFails log i all (Full j) = (j ≡ i) × (2 ^ 62 < log.front + length all)
+AppendFails log i all OutOfMemory = ⊤
+AppendFails log i all (Rejected j r) = ⊥
+AppendFails log i all (BadLog location) = ⊥
+AppendFails log i all (BadValue location) = ⊥
 
 -- a log that took a batch refused it for its length, or memory was wanting
 abbrev pub IsFullOrMemory : LogFault → Type 0

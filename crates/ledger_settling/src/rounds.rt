@@ -5,7 +5,7 @@
 //!                                                        |
 //!   after the last round: what was taken --settle--> slots --> append_slots
 //! ```
-ghost use Rattle.std.specs.Prelude.{◌≡◌, ◌≤◌, ◌++◌, ◌∷◌, [], ℕ, List as Items, IfOk, IfErr, OnOk, IsSome, length, map, drop, filter, not, bytes_eq, if◌then◌else◌};
+ghost use Rattle.std.specs.Prelude.{◌≡◌, ◌≤◌, ◌++◌, ◌∷◌, [], ℕ, List as Items, IfOk, IfErr, OnOk, IsSome, length, map, drop, filter, not, position, slice_get, unwrap_or, option_copied, option_and_then, bytes_eq, if◌then◌else◌};
 ghost use Rattle.std.specs.List.{All, flat_map};
 ghost use Rattle.std.specs.Map.{lookup};
 ghost use Rattle.std.specs.BTreeMap.{BTreeMap};
@@ -15,21 +15,24 @@ ghost use Rattle.ledger_transfers.specs.Changes.{is_empty_change};
 ghost use Rattle.ledger_transfers.specs.Greedy.{taken};
 ghost use Rattle.ledger_transfers.specs.Selecting.{StandsFor};
 ghost use Rattle.ledger_transfers.specs.Touches.{touches};
+ghost use Rattle.ledger_transfers.specs.Settling.{SameSlot};
+ghost use Rattle.ledger_transfers.specs.Registering.{AreSettled};
+ghost use Rattle.ledger_transfers.specs.declared.slot.Slot.TheVariants.{Keep};
 ghost use Rattle.ledger_settling.specs.Blocks.{meaning, grown, joined, batch_of, Settles};
 ghost use Rattle.ledger_settling.specs.Reports.{IsReplay};
 ghost use Rattle.ledger_settling.specs.Rounds.{AreOpened, AreChosen};
-ghost use Rattle.ledger_settling.specs.Slots.{AreReads, AreSlotsOf, BlockFails, opening_of};
+ghost use Rattle.ledger_settling.specs.Slots.{AreReads, AreFound, BlockFails, opening_of, touched_first};
 
 use crate::append::append_slots;
 use crate::fault::ReportFault;
 use crate::report::Accounts;
-use crate::slots::{Slots, key_set, reads_of};
+use crate::slots::{reads_of, touched_keys};
 use ledger_codec::{List, OutOfMemory};
 use ledger_log::{AnyFamily, Key, Log};
 use ledger_managed::AccountValue;
 use ledger_merkle::Sha256Hasher;
 use ledger_strategy::Strategy;
-use ledger_transfers::{Account, Change, Seeded, Selection, Transfer};
+use ledger_transfers::{Account, Change, Selection, Slot, Transfer};
 use std::alloc::Global;
 use std::random::RandomSource;
 use std::thread::Threads;
@@ -143,25 +146,78 @@ fn choose_rounds<T: Transfer<Key = Key, Account = A>, A: AccountValue>(
     Ok(verdicts)
 }
 
-/// The slots of what a selection took.
+/// The place of each key among those that a selection touched.
+fn places_of<A: AccountValue>(
+    alloc: Global,
+    selection: &Selection<Key, A>,
+    keys: &[Key],
+) -> Result<Vec<Option<usize>>, OutOfMemory>
+    ensures { IfOk result (λ places. places.items ≡ map (λ key. position (bytes_eq key) selection.now.0) keys.now) }
+{
+    let mut places = Vec::with_capacity(alloc, keys.len())?;
+    for key in keys {
+        places.push(selection.place_of(key))?;
+    }
+    Ok(places)
+}
+
+/// A copy of a slot, which keeps the account where there is none.
+fn copy_slot<A: AccountValue>(alloc: Global, slot: Option<&Slot<A>>) -> Result<Slot<A>, OutOfMemory>
+    ensures { IfOk result (λ copy. SameSlot A.eq copy (unwrap_or (option_copied slot.entry) Keep)) }
+{
+    match slot {
+        Some(Slot::Delete) => Ok(Slot::Delete),
+        Some(Slot::Put(account)) => Ok(Slot::Put(account.copy(alloc)?)),
+        Some(Slot::Keep) | None => Ok(Slot::Keep),
+    }
+}
+
+/// The slot at a place, if there is a place and a slot at it.
+fn slot_at<A: AccountValue>(
+    alloc: Global,
+    slots: &[Slot<A>],
+    place: Option<usize>,
+) -> Result<Slot<A>, OutOfMemory>
+    ensures { IfOk result (λ copy. SameSlot A.eq copy (unwrap_or (option_and_then (slice_get slots.now) place) Keep)) }
+{
+    match place {
+        Some(place) => copy_slot(alloc, slots.get(place)),
+        None => Ok(Slot::Keep),
+    }
+}
+
+/// The slots at these places.
+fn slots_at<A: AccountValue>(
+    alloc: Global,
+    slots: &[Slot<A>],
+    places: &[Option<usize>],
+) -> Result<Vec<Slot<A>>, OutOfMemory>
+    ensures all { IfOk result (λ found. length found.items ≡ length places.now) }
+    ensures each { IfOk result (λ found. AreFound A.eq slots.now places.now found.items) }
+{
+    let mut found = Vec::with_capacity(alloc, places.len())?;
+    for place in places {
+        let slot = slot_at(alloc, slots, *place)?;
+        found.push(slot)?;
+    }
+    Ok(found)
+}
+
+/// The slots that a selection has for the keys that it took, in their order.
 fn selected_slots<R: RandomSource + Threads + Sync, A: AccountValue, S: Strategy>(
     rt: &R,
     alloc: Global,
     selection: Selection<Key, A>,
     accounts: &Accounts<A>,
+    keys: &[Key],
     strategy: &S,
-) -> Result<Slots<A>, OutOfMemory>
+) -> Result<Vec<Slot<A>>, OutOfMemory>
     requires { AreOpened A.eq accounts.now selection.0 selection.1 }
-    ensures { IfOk result (λ s. (ts : _) → StandsFor bytes_eq A.eq A.rules selection.1 ts → AreSlotsOf A.eq A.rules (opening_of A.rules accounts.now) ts s.keys.keys s.slots.items) }
+    ensures { IfOk result (λ slots. (ts : _) → StandsFor bytes_eq A.eq A.rules selection.1 ts → keys.now ≡ touched_first ts → AreSettled bytes_eq A.eq A.rules keys.now (opening_of A.rules accounts.now) ts slots.items) }
 {
-    let hashing = Seeded::fresh(rt);
-    let keys = key_set(alloc, hashing, selection.keys())?;
+    let places = places_of(alloc, &selection, keys)?;
     let slots = selection.settle(rt, alloc, strategy)?;
-    Ok(Slots {
-        hashing,
-        keys,
-        slots,
-    })
+    slots_at(alloc, &slots, &places)
 }
 
 /// Takes out the empty changes.
@@ -195,9 +251,11 @@ pub(crate) fn settle_rounds<
     let mut selection = Selection::new(rt, alloc);
     let mut changes = Vec::new(alloc);
     let verdicts = choose_rounds(alloc, &mut selection, accounts, &mut changes, rounds)?;
-    let slots = selected_slots(rt, alloc, selection, accounts, strategy)?;
     drop_empty(&mut changes);
-    match append_slots(alloc, log, accounts, place, &changes, &slots) {
+    let order = touched_keys(rt, alloc, &changes)?;
+    let keys = order.as_slice();
+    let slots = selected_slots(rt, alloc, selection, accounts, keys, strategy)?;
+    match append_slots(alloc, log, accounts, place, keys, slots) {
         Ok(()) => Ok(List::from_vec(verdicts)),
         Err(fault) => Err(fault),
     }

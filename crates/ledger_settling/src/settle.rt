@@ -8,13 +8,13 @@ use crate::append::append_slots;
 use crate::fault::ReportFault;
 use crate::report::Accounts;
 use crate::rounds::settle_rounds;
-use crate::slots::body_slots;
+use crate::slots::{Planned, body_slots};
 use ledger_job::{Block, BlockVerdicts};
 use ledger_log::{AnyFamily, Key, Log};
 use ledger_managed::AccountValue;
 use ledger_merkle::Sha256Hasher;
 use ledger_strategy::Strategy;
-use ledger_transfers::{PlanFault, Transfer, touches_of};
+use ledger_transfers::{PlanFault, Transfer};
 use std::alloc::Global;
 use std::random::RandomSource;
 use std::thread::Threads;
@@ -40,15 +40,15 @@ fn settle_body<
     ensures accounts { OnOk result (IsReplay A.eq A.values accounts.new log.new.ops) }
     ensures fails { IfErr result (BodyFails (meaning T.changes_of A.eq A.rules A.values) log.old block batch.now) }
 {
-    let slots = match body_slots(rt, alloc, accounts, batch, strategy) {
-        Ok(slots) => slots,
+    let planned = match body_slots(rt, alloc, accounts, batch, strategy) {
+        Ok(planned) => planned,
         Err(PlanFault::Rejected(rejection)) => {
             return Err(ReportFault::Rejected { block, rejection });
         }
         Err(PlanFault::OutOfMemory) => return Err(ReportFault::OutOfMemory),
     };
-    let touched = touches_of(alloc, batch)?;
-    append_slots(alloc, log, accounts, block, &touched, &slots)
+    let Planned { plan, slots } = planned;
+    append_slots(alloc, log, accounts, block, plan.keys(), slots)
 }
 
 /// Settles a block, at this place of the blocks, on the log.

@@ -1,11 +1,13 @@
-//! The slots of a batch, found by their keys, and written in the order of first touches.
-ghost use Rattle.std.specs.Prelude.{◌≡◌, ◌++◌, ℕ, List as Items, length, map, filter_map, IfOk, IfErr, OnOk, bytes_eq, option_to_list, option_copied, option_and_then, None, Some};
+//! The slots of a body's keys, and how slots are written.
+ghost use Rattle.std.specs.Prelude.{◌≡◌, ◌++◌, List as Items, length, IfOk, IfErr, OnOk, bytes_eq, option_to_list, option_and_then};
+ghost use Rattle.std.specs.Map.{keys_of};
 ghost use Rattle.ledger_log.specs.declared.any.AnyOp.{AnyOp as Op};
 ghost use Rattle.ledger_transfers.specs.Touches.{touches};
-ghost use Rattle.ledger_settling.specs.Blocks.{firsts, written};
+ghost use Rattle.ledger_transfers.specs.Registering.{AreSettled};
+ghost use Rattle.ledger_settling.specs.Blocks.{written};
 ghost use Rattle.ledger_settling.specs.Reports.{IsReplay, held};
 ghost use Rattle.ledger_transfers.specs.Rules.{SameOutcome};
-ghost use Rattle.ledger_settling.specs.Slots.{AreReads, AreSlotsOf, SlotsFail, slot_found, opening_of};
+ghost use Rattle.ledger_settling.specs.Slots.{AreReads, SlotsFail, opening_of, touched_first, writes_of};
 
 use crate::report::Accounts;
 use indexmap::IndexSet;
@@ -18,48 +20,22 @@ use std::alloc::Global;
 use std::random::RandomSource;
 use std::thread::Threads;
 
-/// One slot for each of its keys. The keys are a payer's, so they are hashed with a seed.
+/// A body's plan, with one slot for each of its keys.
 #[derive(Drop)]
-pub(crate) struct Slots<A> {
-    pub hashing: Seeded,
-    pub keys: IndexSet<Key, Seeded>,
+pub(crate) struct Planned<A: AccountValue> {
+    pub plan: Plan<Key, A>,
     pub slots: Vec<Slot<A>>,
 }
 
-impl<A> Slots<A> {
-    /// The slot of this key.
-    pub fn find(&self, key: &Key) -> Option<&Slot<A>>
-        ensures { option_copied result ≡ slot_found self.now.keys.keys self.now.slots.items key.now }
-    {
-        let place = self.keys.get_index_of(key)?;
-        self.slots.get(place)
-    }
-}
-
-/// The keys, each at its first place.
-pub(crate) fn key_set(
+/// The keys of the touches, each at its first place. They are a payer's, so they are hashed with a fresh seed.
+pub(crate) fn touched_keys<R: RandomSource, E: Copy>(
+    rt: &R,
     alloc: Global,
-    hashing: Seeded,
-    keys: &[Key],
-) -> Result<IndexSet<Key, Seeded>, OutOfMemory>
-    ensures { IfOk result (λ set. set.keys ≡ firsts bytes_eq keys.now) }
-{
-    let mut set = IndexSet::with_capacity_and_hasher(alloc, keys.len(), hashing)?;
-    for key in keys {
-        set.insert(*key)?;
-    }
-    Ok(set)
-}
-
-/// The touched keys, in the order of their first touches.
-pub(crate) fn touched_keys<E: Copy>(
-    alloc: Global,
-    hashing: Seeded,
     touched: &[(Key, Change<E>)],
 ) -> Result<IndexSet<Key, Seeded>, OutOfMemory>
-    ensures { IfOk result (λ set. set.keys ≡ firsts bytes_eq (map (λ t. t.0) touched.now)) }
+    ensures { IfOk result (λ set. set.keys ≡ touched_first touched.now) }
 {
-    let mut set = IndexSet::with_hasher(alloc, hashing);
+    let mut set = IndexSet::with_hasher(alloc, Seeded::fresh(rt));
     for (key, _) in touched {
         set.insert(*key)?;
     }
@@ -97,7 +73,7 @@ fn read_one<A: AccountValue>(
     }
 }
 
-/// The slots of a body.
+/// The slots of a body, in the order of first touches.
 pub(crate) fn body_slots<
     R: RandomSource + Threads + Sync,
     T: Transfer<Key = Key, Account = A>,
@@ -109,32 +85,26 @@ pub(crate) fn body_slots<
     accounts: &Accounts<A>,
     batch: &[T],
     strategy: &S,
-) -> Result<Slots<A>, PlanFault<Key>>
-    ensures slots { IfOk result (λ s. AreSlotsOf A.eq A.rules (opening_of A.rules accounts.now) (touches T.changes_of batch.now) s.keys.keys s.slots.items) }
+) -> Result<Planned<A>, PlanFault<Key>>
+    ensures order { IfOk result (λ p. keys_of p.plan ≡ touched_first (touches T.changes_of batch.now)) }
+    ensures slots { IfOk result (λ p. AreSettled bytes_eq A.eq A.rules (keys_of p.plan) (opening_of A.rules accounts.now) (touches T.changes_of batch.now) p.slots.items) }
     ensures fails { IfErr result (SlotsFail A.rules (opening_of A.rules accounts.now) (touches T.changes_of batch.now)) }
 {
     let plan = Plan::new(rt, alloc, batch, strategy)?;
     let reads = reads_of(alloc, accounts, plan.keys())?;
     let slots = plan.settle(rt, alloc, &reads, strategy)?;
-    let hashing = Seeded::fresh(rt);
-    let keys = key_set(alloc, hashing, plan.keys())?;
-    Ok(Slots {
-        hashing,
-        keys,
-        slots,
-    })
+    Ok(Planned { plan, slots })
 }
 
 /// Writes one slot: an operation where the account changes, and the account.
 fn write_slot<A: AccountValue>(
-    alloc: Global,
     accounts: &mut Accounts<A>,
     ops: &mut Vec<AnyOp>,
     key: Key,
-    slot: &Slot<A>,
+    slot: Slot<A>,
 ) -> Result<(), OutOfMemory>
-    ensures ops { OnOk result (ops.new.items ≡ ops.old.items ++ option_to_list (written A.values key slot.now)) }
-    ensures replay { OnOk result ((base : Items Op) → IsReplay A.eq A.values accounts.old base → IsReplay A.eq A.values accounts.new (base ++ option_to_list (written A.values key slot.now))) }
+    ensures ops { OnOk result (ops.new.items ≡ ops.old.items ++ option_to_list (written A.values key slot)) }
+    ensures replay { OnOk result ((base : Items Op) → IsReplay A.eq A.values accounts.old base → IsReplay A.eq A.values accounts.new (base ++ option_to_list (written A.values key slot))) }
 {
     match slot {
         Slot::Keep => Ok(()),
@@ -145,7 +115,7 @@ fn write_slot<A: AccountValue>(
         }
         Slot::Put(account) => {
             ops.push(AnyOp::Update(key, account.to_value()))?;
-            accounts.insert(key, account.copy(alloc)?)?;
+            accounts.insert(key, account)?;
             Ok(())
         }
     }
@@ -153,34 +123,34 @@ fn write_slot<A: AccountValue>(
 
 /// Writes a slot, if there is one.
 fn write_found<A: AccountValue>(
-    alloc: Global,
     accounts: &mut Accounts<A>,
     ops: &mut Vec<AnyOp>,
     key: Key,
-    slot: Option<&Slot<A>>,
+    slot: Option<Slot<A>>,
 ) -> Result<(), OutOfMemory>
-    ensures ops { OnOk result (ops.new.items ≡ ops.old.items ++ option_to_list (option_and_then (written A.values key) (option_copied slot.entry))) }
-    ensures replay { OnOk result ((base : Items Op) → IsReplay A.eq A.values accounts.old base → IsReplay A.eq A.values accounts.new (base ++ option_to_list (option_and_then (written A.values key) (option_copied slot.entry)))) }
+    ensures ops { OnOk result (ops.new.items ≡ ops.old.items ++ option_to_list (option_and_then (written A.values key) slot)) }
+    ensures replay { OnOk result ((base : Items Op) → IsReplay A.eq A.values accounts.old base → IsReplay A.eq A.values accounts.new (base ++ option_to_list (option_and_then (written A.values key) slot))) }
 {
     match slot {
-        Some(slot) => write_slot(alloc, accounts, ops, key, slot),
+        Some(slot) => write_slot(accounts, ops, key, slot),
         None => Ok(()),
     }
 }
 
-/// Writes the slots of these keys in order.
+/// Writes the slots of these keys, in their order.
 pub(crate) fn write_slots<A: AccountValue>(
     alloc: Global,
     accounts: &mut Accounts<A>,
-    order: &[Key],
-    slots: &Slots<A>,
+    keys: &[Key],
+    mut slots: Vec<Slot<A>>,
 ) -> Result<Vec<AnyOp>, OutOfMemory>
-    ensures ops { IfOk result (λ ops. ops.items ≡ filter_map (λ key. option_and_then (written A.values key) (slot_found slots.now.keys.keys slots.now.slots.items key)) order.now) }
+    ensures ops { IfOk result (λ ops. ops.items ≡ writes_of A.values keys.now slots.items) }
     ensures replay { IfOk result (λ ops. (base : Items Op) → IsReplay A.eq A.values accounts.old base → IsReplay A.eq A.values accounts.new (base ++ ops.items)) }
 {
-    let mut ops = Vec::with_capacity(alloc, order.len().saturating_add(1))?;
-    for key in order {
-        write_found(alloc, accounts, &mut ops, *key, slots.find(key))?;
+    let mut ops = Vec::with_capacity(alloc, keys.len().saturating_add(1))?;
+    slots.reverse();
+    for key in keys {
+        write_found(accounts, &mut ops, *key, slots.pop())?;
     }
     Ok(ops)
 }

@@ -1,5 +1,5 @@
 //! A batch that is chosen candidate by candidate.
-ghost use Rattle.std.specs.Prelude.{◌≡◌, ◌+◌, ◌<◌, ◌++◌, ◌↔◌, [], ◌∷◌, IfOk, IfErr, OnOk, OnErr, IsTrue, IsSome, length, take};
+ghost use Rattle.std.specs.Prelude.{◌≡◌, ◌+◌, ◌<◌, ◌++◌, ◌↔◌, [], ◌∷◌, IfOk, IfErr, OnOk, OnErr, IsTrue, IsSome, length, take, position};
 ghost use Rattle.std.specs.List.{All};
 ghost use Rattle.std.specs.Map.{lookup};
 ghost use Rattle.ledger_transfers.specs.Touches.{touches};
@@ -81,6 +81,13 @@ impl<K: Copy + Eq + Hash, A: Account> Selection<K, A> {
         ensures { result.now ≡ self.now.0 }
     {
         self.keys.as_slice()
+    }
+
+    /// The place of a key among the touched ones.
+    pub fn place_of(&self, key: &K) -> Option<usize>
+        ensures { result ≡ position (K.eq key.now) self.now.0 }
+    {
+        self.keys.get_index_of(key)
     }
 
     /// Takes up the keys that the transfers touch, and answers the range of the new ones in `keys`. After a refusal the selection is as

@@ -9,7 +9,8 @@ use Rattle.ledger_transfers.specs.declared.change.Change.{Change}
 use Rattle.ledger_transfers.specs.declared.held.Held.{Held}
 use Rattle.ledger_settling.specs.Blocks.{meaning, joined, Settles, with_touches}
 use Rattle.ledger_settling.specs.Rounds.{AreOpened}
-use Rattle.ledger_settling.specs.Slots.{AreSlotsOf, AppendFails, opening_of}
+use Rattle.ledger_settling.specs.Slots.{AppendFails, touched_first}
+use Rattle.ledger_settling.proofs.AppendLemmas.{slots_make}
 use Rattle.ledger_settling.proofs.OpenLemmas.{opened_none}
 use Rattle.ledger_settling.proofs.RoundLemmas.{rounds_settle, rounds_fail}
 use Rattle.ledger_settling.proofs.rounds.settle_rounds.Goals as goal
@@ -17,16 +18,6 @@ use Rattle.ledger_settling.proofs.rounds.settle_rounds.Goals as goal
 pub choose_rounds-requires-after_bounds : goal.choose_rounds-requires-after_bounds
 choose_rounds-requires-after_bounds g c κs within =
     subst (λ (p : List (List ℕ) × List (List ℕ × Held g.row.A.Denot)). AreOpened g.A.PartialEq.eq c.args.accounts.now p.0 p.1) (sym c.new-selection.ensures.empty) (opened_none g.A.PartialEq.eq c.args.accounts.now)
-
-pub append_slots-requires-clause-slots : goal.append_slots-requires-clause-slots
-append_slots-requires-clause-slots g c κs within =
-    let f = g.T.Transfer.changes_of in
-    let batch = taken (joined c.args.rounds.now) (joined c.in_ok-verdicts.verdicts.items) in
-    let chose = c.in_ok-verdicts.ensures.chosen [] c.new-selection.ensures.stands in
-    let touched : c.deref.result.now ≡ touches f batch = c.deref.ensures.value ∙ c.drop_empty.ensures
-    ∙ ap (filter (λ (t : List ℕ × Change g.row.A-Effect.Denot). not (is_empty_change t.1))) (c.in_ok-verdicts.ensures.changes ∙ ap (λ us. us ++ flat_map f batch) c.new-changes.ensures.items) in
-    subst (λ ts. AreSlotsOf g.A.PartialEq.eq g.A.Account.rules (opening_of g.A.Account.rules c.args.accounts.now) ts c.in_ok-slots.slots.keys.keys c.in_ok-slots.slots.slots.items) (sym touched)
-    (c.in_ok-slots.ensures (touches f batch) chose.1)
 
 pub returns-in-Ok-clause-settles : goal.returns-in-Ok-clause-settles
 returns-in-Ok-clause-settles g c =
@@ -41,14 +32,25 @@ returns-in-Ok-clause-settles g c =
 
 pub returns-in-Ok-clause-grown : goal.returns-in-Ok-clause-grown
 returns-in-Ok-clause-grown g c =
+    let same = g.A.PartialEq.eq in
+    let account = g.A.Account.rules in
+    let values = g.A.AccountValue.values in
+    let eq = g.met.A.Eq g.world.𝓛 g.world.𝓜 g.world.𝓡 ((λ s x. x), (λ x. x), (λ x. x), λ x. x) in
+    let laws = g.met.A.Account g.world.𝓛 g.world.𝓜 g.world.𝓡 ((λ s x. x), (λ x. x), (λ x. x), λ x. x) in
+    let value = g.met.A.AccountValue g.world.𝓛 g.world.𝓜 g.world.𝓡 ((λ s x. x), (λ x. x), (λ x. x), λ x. x) in
     let f = g.T.Transfer.changes_of in
     let log = c.args.log.now in
-    let batch = taken (joined c.args.rounds.now) (joined c.in_ok-verdicts.verdicts.items) in
+    let rounds = c.args.rounds.now in
+    let vs = c.in_ok-verdicts.verdicts.items in
+    let batch = taken (joined rounds) (joined vs) in
+    let chose = c.in_ok-verdicts.ensures.chosen [] c.new-selection.ensures.stands in
     let touched : c.deref.result.now ≡ touches f batch = c.deref.ensures.value ∙ c.drop_empty.ensures
     ∙ ap (filter (λ (t : List ℕ × Change g.row.A-Effect.Denot). not (is_empty_change t.1))) (c.in_ok-verdicts.ensures.changes ∙ ap (λ us. us ++ flat_map f batch) c.new-changes.ensures.items) in
+    let keys : c.as_slice-keys.result.now ≡ touched_first (touches f batch) = c.as_slice-keys.ensures.keys ∙ c.in_ok-order.ensures ∙ ap touched_first touched in
+    let made = slots_make same eq.laws account laws.laws g.A.AccountValue.sound values value.value_laws c.args.accounts.now log.ops c.requires (touches f batch) c.as_slice-keys.result.now c.in_ok-slots.slots.items keys
+    (c.in_ok-slots.ensures (touches f batch) chose.1 keys) in
     c.in-Ok.ensures.grown
-    ∙ ap (λ ts. record { front = log.front; pinned = log.pinned; ops = with_touches g.A.PartialEq.eq g.A.Account.rules g.A.AccountValue.values log.ops ts })
-    (touched ∙ ap (λ vs. touches f (taken (joined c.args.rounds.now) (joined vs))) (sym c.from_vec.ensures))
+    ∙ ap (λ all. record { front = log.front; pinned = log.pinned; ops = all }) (made ∙ ap (λ ws. with_touches same account values log.ops (touches f (taken (joined rounds) (joined ws)))) (sym c.from_vec.ensures))
 
 pub returns-clause-fails : goal.returns-clause-fails
 returns-clause-fails g c =
@@ -57,8 +59,8 @@ returns-clause-fails g c =
     let values = g.A.AccountValue.values in
     let eq = g.met.A.Eq g.world.𝓛 g.world.𝓜 g.world.𝓡 ((λ s x. x), (λ x. x), (λ x. x), λ x. x) in
     let laws = g.met.A.Account g.world.𝓛 g.world.𝓜 g.world.𝓡 ((λ s x. x), (λ x. x), (λ x. x), λ x. x) in
+    let value = g.met.A.AccountValue g.world.𝓛 g.world.𝓜 g.world.𝓡 ((λ s x. x), (λ x. x), (λ x. x), λ x. x) in
     let f = g.T.Transfer.changes_of in
-    let m = meaning f same account values in
     let log = c.args.log.now in
     let rounds = c.args.rounds.now in
     let vs = c.in_ok-verdicts.verdicts.items in
@@ -66,6 +68,10 @@ returns-clause-fails g c =
     let chose = c.in_ok-verdicts.ensures.chosen [] c.new-selection.ensures.stands in
     let touched : c.deref.result.now ≡ touches f batch = c.deref.ensures.value ∙ c.drop_empty.ensures
     ∙ ap (filter (λ (t : List ℕ × Change g.row.A-Effect.Denot). not (is_empty_change t.1))) (c.in_ok-verdicts.ensures.changes ∙ ap (λ us. us ++ flat_map f batch) c.new-changes.ensures.items) in
+    let keys : c.as_slice-keys.result.now ≡ touched_first (touches f batch) = c.as_slice-keys.ensures.keys ∙ c.in_ok-order.ensures ∙ ap touched_first touched in
+    let made = slots_make same eq.laws account laws.laws g.A.AccountValue.sound values value.value_laws c.args.accounts.now log.ops c.requires (touches f batch) c.as_slice-keys.result.now c.in_ok-slots.slots.items keys
+    (c.in_ok-slots.ensures (touches f batch) chose.1 keys) in
+    let m = meaning f same account values in
     rounds_fail m log c.args.place rounds vs c.in-Err.fault
     (rounds_settle m eq.laws laws.laws c.args.accounts.now log.ops c.requires rounds vs chose.0 c.in_ok-verdicts.ensures.cut)
-    (subst (λ ts. AppendFails same account values log c.args.place ts c.in-Err.fault) touched c.in-Err.ensures.fails)
+    (subst (λ all. AppendFails log c.args.place all c.in-Err.fault) made c.in-Err.ensures.fails)

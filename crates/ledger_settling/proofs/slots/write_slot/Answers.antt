@@ -1,9 +1,7 @@
-use Rattle.std.proofs.Common.{sym, subst, Some, ◌++◌}
+use Rattle.std.proofs.Common.{sym, subst, ◌++◌}
 use Rattle.std.specs.Prelude.{option_to_list}
-use Rattle.ledger_transfers.specs.Rules.{SameOutcome}
 use Rattle.ledger_settling.specs.Blocks.{written}
 use Rattle.ledger_settling.specs.Reports.{IsReplay}
-use Rattle.ledger_settling.proofs.OutcomeLemmas.{outcome_trans}
 use Rattle.ledger_settling.proofs.ReplayLemmas.{replay_put, replay_delete}
 use Rattle.ledger_settling.proofs.slots.write_slot.Goals as goal
 
@@ -17,11 +15,7 @@ pub returns-in_ok-insert-in-Put-clause-replay : goal.returns-in_ok-insert-in-Put
 returns-in_ok-insert-in-Put-clause-replay g c = λ base r.
     let same = g.A.PartialEq.eq in
     let values = g.A.AccountValue.values in
-    let eq = g.met.A.Eq g.world.𝓛 g.world.𝓜 g.world.𝓡 ((λ s x. x), (λ x. x), (λ x. x), λ x. x) in
     let laws = g.met.A.AccountValue g.world.𝓛 g.world.𝓜 g.world.𝓡 ((λ s x. x), (λ x. x), (λ x. x), λ x. x) in
     let a = c.in-Put.account in
-    let copy = c.in_ok-copy-in-Put.field-0 in
-    let reads : SameOutcome same (Some copy) (values.read (values.value_of a)) =
-    outcome_trans same eq.laws (Some copy) (Some a) (values.read (values.value_of a)) c.in_ok-copy-in-Put.ensures (laws.value_laws.reads_back a c.to_value.ensures.sound) in
     subst (λ s. IsReplay same values c.insert.new.self (base ++ option_to_list (written values c.args.key s))) (sym c.in-Put.is)
-    (replay_put same values base c.args.accounts.now c.insert.new.self c.args.key (values.value_of a) copy r reads c.in_ok-insert-in-Put.ensures.updates.0)
+    (replay_put same values base c.args.accounts.now c.insert.new.self c.args.key (values.value_of a) a r (laws.value_laws.reads_back a c.to_value.ensures.sound) c.in_ok-insert-in-Put.ensures.updates.0)
