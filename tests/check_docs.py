@@ -15,6 +15,7 @@ PAGES = [TOP / "README.md", *sorted((TOP / "docs").glob("*.md"))]
 # The commands of the pages, with what runs them.
 RUN_BY = {
     "bin/ledger local < examples/first.job": "tests/check_commands.py",
+    "bin/ledger follow ADDRESS < follow.job": "tests/check_follow.py",
     "bin/ledger help": "tests/check_commands.py",
     "bin/ledger build": "tests/check_commands.py",
     "bin/ledger take ../mine ledger_log": "tests/own_repository.py",

@@ -1,7 +1,7 @@
 #!/usr/bin/env python3
-"""What `local` prints for a job, worked out independently of the program: dictionaries, whole replays and the
-rules of docs/FORMATS.md. Prints the report or the error line (of several offending keys the one that is touched
-first) and ends with the status.
+"""What `local` prints for a job, and `follow` for one over a log that a peer serves, worked out independently of the
+program: dictionaries, whole replays and the rules of docs/FORMATS.md. Prints what `local` does, the report or the
+error line (of several offending keys the one that is touched first), and ends with the status.
 
     python3 tests/reference.py < JOB
 """
@@ -13,6 +13,7 @@ from rules import be64, commit, root, update
 MAX = 2**64 - 1
 NAME = re.compile(rb"[a-z0-9_-]{1,32}\Z")
 HEX = re.compile(rb"0x[0-9a-fA-F]{64}\Z")
+ROOT = re.compile(rb"[0-9a-fA-F]{64}\Z")
 NUMBER = re.compile(rb"(0|[1-9][0-9]*)\Z")
 
 
@@ -41,40 +42,74 @@ class Offence(Exception):
     pass
 
 
-def parse(text):
-    """The job's opening accounts and blocks."""
+class Job:
+    def __init__(self):
+        self.opens, self.target, self.updates, self.limits, self.blocks = [], None, [], None, []
+
+
+def target_of(fields):
+    """A root, a start and an end."""
+    root, start, end = fields
+    start, end = number_of(start), number_of(end)
+    if not ROOT.match(root) or not start < end <= 2**62:
+        raise ValueError
+    return bytes.fromhex(root.decode()), start, end
+
+
+def head_line(job, kind, word, fields):
+    """A line that stands before any block."""
+    if word == b"open" and kind == "local":
+        key, balance, nonce = fields
+        job.opens.append((key_of(key), number_of(balance), number_of(nonce)))
+    elif word == b"target" and kind == "follow" and job.target is None:
+        job.target = target_of(fields)
+    elif word == b"update" and job.target is not None and len(job.updates) < 8:
+        job.updates.append(target_of(fields))
+    elif word == b"limits" and job.limits is None:
+        batch, outstanding = (number_of(field) for field in fields)
+        if batch == 0 or not 1 <= outstanding <= 64:
+            raise ValueError
+        job.limits = (batch, outstanding)
+    else:
+        raise ValueError
+
+
+def block_line(job, word, fields):
+    if word in (b"body", b"rounds") and not fields:
+        job.blocks.append((word.decode(), []))
+    elif word == b"round" and not fields and job.blocks[-1][0] == "rounds":
+        job.blocks[-1][1].append([])
+    elif word == b"pay":
+        payer, payee, amount, nonce = fields
+        kind, content = job.blocks[-1]
+        place = content if kind == "body" else content[-1]
+        place.append((key_of(payer), key_of(payee), number_of(amount), number_of(nonce)))
+    else:
+        raise ValueError
+
+
+def parse(text, kind="local"):
+    """The job of `local` or `follow` that a text spells."""
     lines = text.split(b"\n")
     if lines[-1] == b"":
         lines.pop()
-    opens, blocks, limited = [], [], False
+    job = Job()
     for at, line in enumerate(lines, 1):
         if line == b"" or line.startswith(b"#"):
             continue
         word, *fields = line.split(b" ")
         try:
-            if word == b"open" and len(fields) == 3 and not blocks:
-                opens.append((key_of(fields[0]), number_of(fields[1]), number_of(fields[2])))
-            elif word == b"limits" and len(fields) == 2 and not blocks and not limited:
-                if number_of(fields[0]) == 0 or not 1 <= number_of(fields[1]) <= 64:
+            if word in (b"open", b"target", b"update", b"limits"):
+                if job.blocks:
                     raise ValueError
-                limited = True
-            elif word == b"body" and not fields:
-                blocks.append(("body", []))
-            elif word == b"rounds" and not fields:
-                blocks.append(("rounds", []))
-            elif word == b"round" and not fields and blocks and blocks[-1][0] == "rounds":
-                blocks[-1][1].append([])
-            elif word == b"pay" and len(fields) == 4 and blocks:
-                kind, content = blocks[-1]
-                place = content if kind == "body" else content[-1]
-                place.append(
-                    (key_of(fields[0]), key_of(fields[1]), number_of(fields[2]), number_of(fields[3]))
-                )
+                head_line(job, kind, word, fields)
             else:
-                raise ValueError
+                block_line(job, word, fields)
         except (ValueError, IndexError):
             raise Offence(at)
-    return opens, blocks
+    if kind == "follow" and job.target is None:
+        raise Offence(len(lines) + 1)
+    return job
 
 
 def value(account):
@@ -170,15 +205,14 @@ def choose(accounts, rounds):
     return taken, verdicts
 
 
-def local(text):
-    """The texts of which one is printed, and the status. Where several keys of a body offend, any of them may be
-    named; else there is one text."""
-    try:
-        opens, blocks = parse(text)
-    except Offence as offence:
-        return [f"error job line {offence.args[0]}\n"], 3
-    ops = [("commit", 0)] + [("update", k, (b, n)) for k, b, n in opens] + [("commit", 0)]
-    out = [f"synced 0 {len(ops)}"]
+def report(ops, start, end, blocks):
+    """The texts of which one is printed, and the status, where the operations of a log from `start` to `end` were
+    fetched and these blocks are settled on them. Where several keys of a body offend, any of them may be named; else
+    there is one text."""
+    before, ops = ops[:start], ops[start:end]
+    if ops[-1][0] != "commit" or not start <= ops[-1][1] < end:
+        return [f"error log {end - 1}\n"], 8
+    out = [f"synced {start} {end}"]
     for place, (kind, content) in enumerate(blocks):
         accounts = replay(ops)
         if kind == "body":
@@ -193,8 +227,66 @@ def local(text):
         append(ops, accounts, sums)
     for key, (balance, nonce) in sorted(replay(ops).items()):
         out.append(f"account {key_text(key)} {balance} {nonce}")
+    ops = before + ops
     out += [f"size {len(ops)}", f"root {root([spelling(op) for op in ops]).hex()}"]
     return ["\n".join(out) + "\n"], 0
+
+
+def served(job):
+    """The log that a job serves."""
+    return [("commit", 0)] + [("update", k, (b, n)) for k, b, n in job.opens] + [("commit", 0)]
+
+
+def local(text):
+    """What `local` prints: the texts of which one is printed, and the status."""
+    try:
+        job = parse(text)
+    except Offence as offence:
+        return [f"error job line {offence.args[0]}\n"], 3
+    ops = served(job)
+    return report(ops, 0, len(ops), job.blocks)
+
+
+class Stale(Exception):
+    pass
+
+
+def synced(job, most):
+    """The end of the target that is synced over a peer which answers each ask in turn, with at most so many
+    operations."""
+    (_, start, end), (batch, outstanding) = job.target, job.limits or (50, 1)
+    low, fresh, kept, rests, pending, updates = start, start, 0, [], [], list(job.updates)
+    while True:
+        while len(pending) < outstanding and (rests or fresh < end):
+            if not rests:
+                rests.append((fresh, min(fresh + batch, end)))
+                fresh = rests[0][1]
+            pending.append(rests.pop(0))
+        first, behind = pending.pop(0)
+        count = min(most, behind - first)
+        kept += count
+        if first + count < behind:
+            rests.append((first + count, behind))
+        if kept == end - start:
+            return end
+        if updates:
+            _, later, last = updates.pop(0)
+            if later < low or last <= end:
+                raise Stale(later, last)
+            low, end = later, last
+
+
+def follow(text, ops, most=2**32):
+    """What `follow` prints over such a peer, whose log has these operations and the roots that the job names."""
+    try:
+        job = parse(text, "follow")
+    except Offence as offence:
+        return [f"error job line {offence.args[0]}\n"], 3
+    try:
+        end = synced(job, most)
+    except Stale as stale:
+        return [f"error update {stale.args[0]} {stale.args[1]}\n"], 8
+    return report(ops, job.target[1], end, job.blocks)
 
 
 if __name__ == "__main__":
