@@ -1,5 +1,6 @@
 #!/usr/bin/env python3
-"""Feeds the built program mutated jobs for as long as it is told to, and compares what it prints and its status with
+"""Feeds the built program mutated jobs for as long as it is told to, of `local` and of `follow` with an address that
+nobody can dial, and compares what it prints and its status with
 the reference in reference.py: no crash, no hang, no answer that the reading doesn't allow. Each job follows from the
 seed and its number, and one that fails is kept in a file. Ends with a line 'N passed, M failed'.
 
@@ -14,12 +15,13 @@ import time
 
 sys.path.insert(0, str(pathlib.Path(__file__).parent))
 from check_examples import made_job  # noqa: E402
-from reference import local  # noqa: E402
+from check_follow import made_job as made_follow  # noqa: E402
+from reference import Offence, local, parse  # noqa: E402
 
 EXAMPLES = [p.read_bytes() for p in sorted((pathlib.Path(__file__).parent.parent / "examples").glob("*.job"))]
 NUMBERS = [0, 1, 2, 9, 10, 63, 64, 65, 2**31, 2**32, 2**62, 2**63 - 1, 2**63, 2**64 - 1, 2**64, 10**40]
 PIECES = [b" ", b"\n", b"\r", b"\t", b"\0", b"#", b"-", b"+", b"0", b"00", b"0x", b"\xff", b"\xc3\xa9"]
-WORDS = [b"open", b"limits", b"body", b"rounds", b"round", b"pay", b"follow", b"Open", b"bodyy", b"target"]
+WORDS = [b"open", b"limits", b"body", b"rounds", b"round", b"pay", b"follow", b"Open", b"bodyy", b"target", b"update"]
 
 
 def swap_field(rng, text):
@@ -77,21 +79,36 @@ def turn(rng, text):
 
 
 def mutated(seed, number):
+    """The words and the job of this number."""
     rng = random.Random(f"{seed} {number}")
-    text = rng.choice(EXAMPLES) if rng.random() < 0.2 else made_job(rng.randrange(2**32))
+    if rng.random() < 0.3:
+        words, text = ["follow", "nowhere"], made_follow(rng)[1].encode()
+    else:
+        words, text = ["local"], rng.choice(EXAMPLES) if rng.random() < 0.2 else made_job(rng.randrange(2**32))
     changes = [swap_number] if rng.random() < 0.5 else [swap_field, swap_field, move_line, cut, put, turn]
     for _ in range(rng.choice([0, 1, 1, 1, 2, 3, 8])):
         text = rng.choice(changes)(rng, text)
-    return text
+    return words, text
 
 
-def complaint(program, job):
+def answer(words, job):
+    """The texts of which one is printed, and the status."""
+    if words == ["local"]:
+        return local(job)
+    try:
+        parse(job, "follow")
+    except Offence as offence:
+        return [f"error job line {offence.args[0]}\n"], 3
+    return ["error dial\n"], 6
+
+
+def complaint(program, words, job):
     """What is wrong with the program's answer to a job, or None."""
     try:
-        run = subprocess.run([program, "local"], input=job, capture_output=True, timeout=60)
+        run = subprocess.run([program, *words], input=job, capture_output=True, timeout=60)
     except subprocess.TimeoutExpired:
         return "no answer within a minute"
-    allowed, status = local(job)
+    allowed, status = answer(words, job)
     if run.returncode != status or run.stdout.decode(errors="replace") not in allowed or run.stderr:
         return f"status {run.returncode}, wanted {status}\n{run.stdout!r}\n{run.stderr!r}\nwanted one of {allowed!r}"
     return None
@@ -102,15 +119,15 @@ def main(program, seconds=10, seed=None):
     print(f"seed {seed}")
     passed, failed, number, end = 0, 0, 0, time.monotonic() + float(seconds)
     while time.monotonic() < end:
-        job = mutated(seed, number)
-        wrong = complaint(program, job)
+        words, job = mutated(seed, number)
+        wrong = complaint(program, words, job)
         if wrong is None:
             passed += 1
         else:
             failed += 1
             kept = pathlib.Path(tempfile.gettempdir()) / f"job-{seed}-{number}"
             kept.write_bytes(job)
-            print(f"job {number}, kept as {kept}: {wrong}")
+            print(f"job {number} of {words[0]}, kept as {kept}: {wrong}")
         number += 1
     print(f"{passed} passed, {failed} failed")
     return 1 if failed else 0
