@@ -9,10 +9,9 @@
 //! [`follow`] takes any link: it fetches the target's range, checks it against the root, and settles blocks on it.
 //! Its contract stands over the definitions of `specs/Follow.antt`.
 //!
-//! What a run answers is said by the contract of [`run`], over the definitions of `specs/Run.antt`: the
-//! report is that of the job's blocks over the log that the job serves, or over what a dialed link gave, and each fault
-//! has its cause. The
-//! job, the printed report and the error lines are described in docs/FORMATS.md.
+//! What a run answers is said by the contract of [`run`], over the definitions of `specs/Run.antt`: the report is that
+//! of the job's blocks over the log that the job serves, or over what a dialed link gave, and each fault has its cause.
+//! The job, the printed report and the error lines are described in docs/FORMATS.md.
 #![tactic(auto)]
 
 mod digits;
