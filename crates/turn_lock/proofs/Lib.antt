@@ -1,0 +1,5 @@
+pub mod Views
+pub mod Histories
+pub mod Steps
+pub mod Passing
+pub mod Turning

@@ -1,0 +1,5 @@
+pub mod History
+pub mod Rule
+pub mod Turns
+pub mod Passes
+pub mod Seated
