@@ -10,14 +10,18 @@
 //! What it prints depends on its words alone, so that two programs can be compared.
 #![tactic(auto)]
 
-ghost use Rattle.std.specs.Prelude.{◌<◌};
+ghost use Rattle.std.specs.Prelude.{◌≡◌, ◌+◌, ◌<◌, ◌≤◌, ◌↔◌, true, Err, length, map, IsTrue, IfOk, IsOkUnless, MatchOption};
+ghost use Rattle.ledger_log.specs.Faults.{range_refusal};
+ghost use Rattle.ledger_log.specs.Any.{any_spelling};
 ghost use Rattle.ledger_log.specs.View.{log_size};
+ghost use Rattle.ledger_merkle.specs.Range.{RangeOk};
 
 #[cfg(test)]
 mod tests;
 
+use ledger_codec::Digest;
 use ledger_log::{AnyFamily, AnyOp, Key, Log, LogFault};
-use ledger_merkle::{Location, Sha256Hasher, check_range};
+use ledger_merkle::{Hasher, Location, Proof, Sha256Hasher, check_range};
 use std::alloc::Global;
 use std::env;
 use std::num::NonZeroU64;
@@ -100,13 +104,30 @@ fn fill(alloc: Global, log: &mut AnyLog, work: Work) -> Result<(), LogFault> {
     Ok(())
 }
 
-/// Proves the range from this place on, and says whether the proof is right.
+/// Whether these are the operations from `start` on of the log of this root and size, by this proof.
+fn is_right<H: Hasher>(
+    root: &Digest,
+    proof: &Proof,
+    size: Location,
+    start: Location,
+    ops: &[AnyOp],
+) -> bool
+    requires some { 0 < length ops.now }
+    requires within { start + length ops.now ≤ size }
+    ensures { IsTrue result ↔ RangeOk H.digest root.now proof.now.leaves proof.now.inactive_peaks proof.now.digests size start (map any_spelling ops.now) }
+{
+    check_range::<H, AnyOp>(root, proof, size, start, ops).is_ok()
+}
+
+/// Proves the range from this place on, and says whether the proof is right, as it always is.
 fn prove_at(log: &AnyLog, start: Location, span: NonZeroU64) -> Result<bool, LogFault>
     requires { start < log_size log.now }
+    ensures refusal { MatchOption (range_refusal log.now (log_size log.now) start) (IsOkUnless result LogFault.OutOfMemory) (λ fault. result ≡ Err fault) }
+    ensures right { IfOk result (λ right. right ≡ true) }
 {
     let size = log.size();
     let (proof, ops) = log.historical_proof(size, start, span)?;
-    Ok(check_range::<Sha256Hasher, AnyOp>(&log.root(), &proof, size, start, ops.as_slice()).is_ok())
+    Ok(is_right::<Sha256Hasher>(&log.root(), &proof, size, start, ops.as_slice()))
 }
 
 /// Proves one of the ranges that are spread over the log, and says whether the proof is right.
