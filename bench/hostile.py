@@ -1,9 +1,9 @@
 #!/usr/bin/env python3
 """What a hostile job costs: time against a harmless job of the same shape, and memory a byte of its text.
 
-    python3 bench/hostile.py [--payments N] [--bytes N] [--against PROGRAM] [--times N]
+    python3 bench/hostile.py [--program PROGRAM] [--payments N] [--bytes N] [--against PROGRAM] [--times N]
 
-Runs crates/ledger_main/out/ledger_main, which `rt ci` leaves there. Two kinds of jobs:
+Runs crates/ledger_main/out/ledger_main, which `rt ci` leaves there, or another PROGRAM. Two kinds of jobs:
 
 - keys chosen so that they collide in a table that hashes by std's fast hasher with its fixed seed: their bytes 8 to
   15 are its multiplier, which brings every one of them to one state. A body and rounds of payments among them are
@@ -65,13 +65,13 @@ def timed(program, job, times):
 
 def show_keys(given):
     for kind in ("body", "rounds"):
-        chosen = timed(PROGRAM, payments(chosen_key, given.payments, kind), given.times)
-        other = timed(PROGRAM, payments(other_key, given.payments, kind), given.times)
+        chosen = timed(given.program, payments(chosen_key, given.payments, kind), given.times)
+        other = timed(given.program, payments(other_key, given.payments, kind), given.times)
         print(f"{kind} of {given.payments} payments: chosen keys {chosen:.2f} s, others {other:.2f} s, ratio {chosen / max(other, 0.01):.2f}")
 
 
 def show_texts(given):
-    least = run(PROGRAM, b"")[1]
+    least = run(given.program, b"")[1]
     texts = {
         "line feeds": b"\n",
         "comments": b"#\n",
@@ -83,10 +83,10 @@ def show_texts(given):
         text = piece * (given.bytes // len(piece))
         if piece == b" " or piece == b"a ":
             text += b"\n"
-        peak = run(PROGRAM, text)[1] - least
+        peak = run(given.program, text)[1] - least
         print(f"{len(text)} bytes of {name}: {peak / len(text):.1f} bytes a byte")
     for name, job in (("1000000 open lines", opens(1_000_000)), ("100000 open lines and payments", paid(100_000))):
-        peak = run(PROGRAM, job)[1]
+        peak = run(given.program, job)[1]
         line = f"{name}: {peak >> 20} MB, {(peak - least) / len(job):.1f} bytes a byte"
         if given.against:
             line += f", ratio {peak / run(given.against, job)[1]:.2f}"
@@ -95,6 +95,7 @@ def show_texts(given):
 
 def main():
     options = argparse.ArgumentParser()
+    options.add_argument("--program", default=PROGRAM)
     options.add_argument("--payments", type=int, default=20_000)
     options.add_argument("--bytes", type=int, default=8_000_000)
     options.add_argument("--times", type=int, default=3)

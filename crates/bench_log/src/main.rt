@@ -1,5 +1,6 @@
-//! Fills a log and proves ranges of it, to be timed. Its words are four numbers: how many operations are
-//! appended, how many a batch holds, how many ranges are proved, and how many operations a range holds.
+//! Fills a log, proves ranges of it and drops it from the front, to be timed. Its words are five numbers: how many
+//! operations are appended, how many a batch holds, how many ranges are proved, how many operations a range holds,
+//! and in how many steps the log is pruned.
 //!
 //! ```text
 //! words --> batches --append_batch--> Log --historical_proof--> check_range
@@ -37,6 +38,7 @@ struct Work {
     batch: u64,
     ranges: u64,
     span: u64,
+    steps: u64,
 }
 
 /// The number that a word spells.
@@ -55,6 +57,7 @@ fn read_work<R: Env + AllocGlobal>(rt: &R) -> Work {
             batch: 0,
             ranges: 0,
             span: 0,
+            steps: 0,
         };
     };
     let mut words = args.skip(1);
@@ -63,6 +66,7 @@ fn read_work<R: Env + AllocGlobal>(rt: &R) -> Work {
         batch: number(words.next()),
         ranges: number(words.next()),
         span: number(words.next()),
+        steps: number(words.next()),
     }
 }
 
@@ -156,12 +160,31 @@ fn prove_ranges(log: &AnyLog, work: Work) -> Result<u64, LogFault> {
     Ok(right)
 }
 
+/// Drops what stands before the last operation, in so many steps of one length.
+fn prune_in(log: &mut AnyLog, steps: u64) -> Result<(), LogFault> {
+    if steps == 0 {
+        return Ok(());
+    }
+    let last = log.size().get().saturating_sub(1);
+    let Some(floor) = Location::new(last) else {
+        return Ok(());
+    };
+    log.append_batch(&[AnyOp::CommitFloor(None, floor)])?;
+    for step in 1..=steps {
+        if let Some(place) = Location::new((last / steps).saturating_mul(step)) {
+            log.prune(place)?;
+        }
+    }
+    Ok(())
+}
+
 /// Does the work, and prints what came of it.
 fn measure<R: Print + AllocGlobal>(rt: &R, work: Work) -> Result<(), LogFault> {
     let alloc = rt.alloc();
     let mut log = AnyLog::fresh(alloc)?;
     fill(alloc, &mut log, work)?;
     let right = prove_ranges(&log, work)?;
+    prune_in(&mut log, work.steps)?;
     let _ = println!(rt; "size {}", log.size().get());
     let _ = println!(rt; "right {right}");
     let _ = println!(rt; "root {}", hex::encode(alloc, log.root())?);

@@ -12,6 +12,7 @@ const TEN: Work = Work {
     batch: 1_000,
     ranges: 0,
     span: 0,
+    steps: 0,
 };
 
 /// A log of ten batches, a commit whose floor is 5,000, and ten batches more.
