@@ -142,6 +142,12 @@ def check_example(checks):
         checks.hold(holds, f"README.md: {file} has other lines")
 
 
+def check_node(checks):
+    """What the node of the examples prints stands in README.md as it is."""
+    printed = (TOP / "crates/example_node/stdout").read_text()
+    checks.hold(printed in fences((TOP / "README.md").read_text(), "text"), "README.md: example_node prints other lines")
+
+
 def check_help(checks):
     """`bin/ledger help` has the statuses of docs/FORMATS.md."""
     told = subprocess.run([TOP / "bin/ledger", "help"], capture_output=True, text=True)
@@ -153,7 +159,7 @@ def check_help(checks):
 
 def main():
     checks = Checks()
-    for check in (check_commands, check_promises, check_paths, check_crates, check_example, check_help):
+    for check in (check_commands, check_promises, check_paths, check_crates, check_example, check_node, check_help):
         check(checks)
     print(f"{checks.passed} passed, {checks.failed} failed")
     return 1 if checks.failed else 0
