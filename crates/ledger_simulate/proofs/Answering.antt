@@ -10,14 +10,13 @@ use Rattle.simulate_parts.specs.declared.engine.StepEvent.{StepEvent}
 use Rattle.simulate_parts.specs.declared.engine.StepOut.{StepOut}
 use Rattle.simulate_parts.specs.declared.peer.Peer.{Peer}
 use Rattle.simulate_parts.specs.declared.schedule.Crash.{Crash}
-use Rattle.simulate_parts.specs.declared.seats.Seat.{Seat}
 use Rattle.simulate_parts.specs.declared.tracker.FinalizationUpdate.{FinalizationUpdate}
 use Rattle.simulate_parts.specs.declared.tracker.ObserveFault.{ObserveFault}
 use Rattle.ledger_simulate.specs.Answering.{Answered, Asked, Asks, Ends, EndsAt, Fails, IsComplaint, IsFailure, IsObjection, MetOn, Objects, ReportsThen, SeesAfter, SkipsAfter, StopAnswered}
 use Rattle.ledger_simulate.specs.Causes.{IsSkip}
 use Rattle.ledger_simulate.specs.Delays.{started_by, started_where}
 use Rattle.ledger_simulate.specs.declared.reports.Reached.{Reached}
-use Rattle.ledger_simulate.specs.Handling.{Handles, told_by, told_first}
+use Rattle.ledger_simulate.specs.Handling.{Handles, is_poll, polls_first, told_by, told_first}
 use Rattle.ledger_simulate.specs.Plans.{target_count}
 use Rattle.ledger_simulate.specs.Queue.{AgendaView, QueueView, empty_agenda}
 use Rattle.ledger_simulate.specs.Reaching.{IsReached}
@@ -83,14 +82,14 @@ pub agenda_begun : (before rest : QueueView) (entry : (ℕ × ℕ) × Event) (st
 agenda_begun before rest entry start taken nothing = nothing ∙ ap empty_agenda (sym (ap (λ (q : QueueView). q.next) taken))
 
 -- the states that checks see at a report of a step that handles the event that was taken off
-pub sees_begun : {D E S : Type 0} (peer_of : E → Peer) (journal : Option (E → List (StepEvent × StepOut))) (reports : Option (FinalizationUpdate → Bool)) (height : S → ℕ) (shown : S → List ℕ) (participants : List Peer) (crashes : List Crash) (holds : List (Peer × Seat D E S) → Type 0) (before rest : QueueView) (entry : (ℕ × ℕ) × Event) (start : AgendaView) (u : World D E S) (more : List FinalizationUpdate) (states : List StateView) → before ≡ record rest { entries = entry ∷ rest.entries } → start ≡ empty_agenda rest.next → SeesAfter peer_of journal reports height shown participants crashes holds (told_by entry.0 entry.1) start u more states → SeesAfter peer_of journal reports height shown participants crashes holds (told_first before) (empty_agenda before.next) u more states
+pub sees_begun : {D E S : Type 0} (peer_of : E → Peer) (journal : Option (E → List (StepEvent × StepOut))) (reports : Option (FinalizationUpdate → Bool)) (height : S → ℕ) (shown : S → List ℕ) (participants : List Peer) (crashes : List Crash) (holds : List FinalizationUpdate → Bool → World D E S → Type 0) (before rest : QueueView) (entry : (ℕ × ℕ) × Event) (start : AgendaView) (u : World D E S) (more : List FinalizationUpdate) (states : List StateView) → before ≡ record rest { entries = entry ∷ rest.entries } → start ≡ empty_agenda rest.next → SeesAfter peer_of journal reports height shown participants crashes holds (told_by entry.0 entry.1) start u more states → SeesAfter peer_of journal reports height shown participants crashes holds (told_first before) (empty_agenda before.next) u more states
 sees_begun peer_of journal reports height shown participants crashes holds before rest entry start u more states taken nothing sees =
     subst (λ t. SeesAfter peer_of journal reports height shown participants crashes holds t (empty_agenda before.next) u more states) (sym (ap told_first taken))
     (subst (λ a. SeesAfter peer_of journal reports height shown participants crashes holds (told_by entry.0 entry.1) a u more states) (agenda_begun before rest entry start taken nothing) sees)
 
 -- how the exit condition is asked in such a step
-pub asks_begun : {D E S : Type 0} (peer_of : E → Peer) (journal : Option (E → List (StepEvent × StepOut))) (reports : Option (FinalizationUpdate → Bool)) (height : S → ℕ) (shown : S → List ℕ) (participants : List Peer) (crashes : List Crash) (holds : List (Peer × Seat D E S) → Type 0) (before rest : QueueView) (entry : (ℕ × ℕ) × Event) (start : AgendaView) (us : List FinalizationUpdate) (u : World D E S) (more : List FinalizationUpdate) (states : List StateView) (target : ℕ) → before ≡ record rest { entries = entry ∷ rest.entries } → start ≡ empty_agenda rest.next → Asks peer_of journal reports height shown participants crashes holds (told_by entry.0 entry.1) us start u more states target → Asks peer_of journal reports height shown participants crashes holds (told_first before) us (empty_agenda before.next) u more states target
-asks_begun peer_of journal reports height shown participants crashes holds before rest entry start us u more states target taken nothing (inl polled, counts) = (inl (ap told_first taken ∙ polled.0, polled.1, polled.2), counts)
+pub asks_begun : {D E S : Type 0} (peer_of : E → Peer) (journal : Option (E → List (StepEvent × StepOut))) (reports : Option (FinalizationUpdate → Bool)) (height : S → ℕ) (shown : S → List ℕ) (participants : List Peer) (crashes : List Crash) (holds : List FinalizationUpdate → Bool → World D E S → Type 0) (before rest : QueueView) (entry : (ℕ × ℕ) × Event) (start : AgendaView) (us : List FinalizationUpdate) (u : World D E S) (more : List FinalizationUpdate) (states : List StateView) (target : ℕ) → before ≡ record rest { entries = entry ∷ rest.entries } → start ≡ empty_agenda rest.next → Asks peer_of journal reports height shown participants crashes holds (told_by entry.0 entry.1) (is_poll entry.1) us start u more states target → Asks peer_of journal reports height shown participants crashes holds (told_first before) (polls_first before) us (empty_agenda before.next) u more states target
+asks_begun peer_of journal reports height shown participants crashes holds before rest entry start us u more states target taken nothing (inl polled, counts) = (inl (ap polls_first taken ∙ polled.0, polled.1, polled.2), counts)
 asks_begun peer_of journal reports height shown participants crashes holds before rest entry start us u more states target taken nothing (inr sees, counts) =
     (inr (sees_begun peer_of journal reports height shown participants crashes holds before rest entry start u more states taken nothing sees), counts)
 
@@ -101,7 +100,7 @@ reports_begun peer_of journal reports before rest entry start u more update take
     (subst (λ a. ReportsThen peer_of journal reports (told_by entry.0 entry.1) a u more update) (agenda_begun before rest entry start taken nothing) came)
 
 -- a window that was skipped in such a step
-pub skips_begun : {D E S : Type 0} (peer_of : E → Peer) (journal : Option (E → List (StepEvent × StepOut))) (reports : Option (FinalizationUpdate → Bool)) (height : S → ℕ) (participants : List Peer) (crashes : List Crash) (holds : List (Peer × Seat D E S) → Type 0) (before rest : QueueView) (entry : (ℕ × ℕ) × Event) (start : AgendaView) (u : World D E S) (skipped : ℕ) → before ≡ record rest { entries = entry ∷ rest.entries } → start ≡ empty_agenda rest.next → SkipsAfter peer_of journal reports height participants crashes holds (told_by entry.0 entry.1) start u skipped → SkipsAfter peer_of journal reports height participants crashes holds (told_first before) (empty_agenda before.next) u skipped
+pub skips_begun : {D E S : Type 0} (peer_of : E → Peer) (journal : Option (E → List (StepEvent × StepOut))) (reports : Option (FinalizationUpdate → Bool)) (height : S → ℕ) (participants : List Peer) (crashes : List Crash) (holds : List FinalizationUpdate → Bool → World D E S → Type 0) (before rest : QueueView) (entry : (ℕ × ℕ) × Event) (start : AgendaView) (u : World D E S) (skipped : ℕ) → before ≡ record rest { entries = entry ∷ rest.entries } → start ≡ empty_agenda rest.next → SkipsAfter peer_of journal reports height participants crashes holds (told_by entry.0 entry.1) start u skipped → SkipsAfter peer_of journal reports height participants crashes holds (told_first before) (empty_agenda before.next) u skipped
 skips_begun peer_of journal reports height participants crashes holds before rest entry start u skipped taken nothing skips =
     subst (λ t. SkipsAfter peer_of journal reports height participants crashes holds t (empty_agenda before.next) u skipped) (sym (ap told_first taken))
     (subst (λ a. SkipsAfter peer_of journal reports height participants crashes holds (told_by entry.0 entry.1) a u skipped) (agenda_begun before rest entry start taken nothing) skips)
@@ -111,7 +110,7 @@ pub left_more : (done left rest all : List FinalizationUpdate) (update : Finaliz
 left_more done left rest all update whole first = append_assoc done (update ∷ []) rest ∙ ap (λ us. done ++ us) (sym first) ∙ whole
 
 -- a run whose first event was handled and whose exit condition was met
-abbrev pub ends_of : {D E S C : Type 0} (peer_of : E → Peer) (journal : Option (E → List (StepEvent × StepOut))) (reports : Option (FinalizationUpdate → Bool)) (height : S → ℕ) (shown : S → List ℕ) (holds : List (Peer × Seat D E S) → Type 0) (verdict : C → TrackerView → List StateView → ℕ → Result Bool (List ℕ)) (condition : Option C) (required : ℕ) (participants : List Peer) (crashes : List Crash) (queue left : QueueView) (entry : (ℕ × ℕ) × Event) (start made : AgendaView) (us vs done more : List FinalizationUpdate) (u w : World D E S) (states : List StateView) (reached : Reached) → queue ≡ record left { entries = entry ∷ left.entries } → start ≡ empty_agenda left.next → Handles peer_of journal reports height participants crashes holds (Some reached) entry.0 entry.1 start made us vs u w → IsReached verdict condition required (target_count participants crashes w.exercise.delayed_started) vs reached → w.exercise.delayed_started ≡ started_by participants crashes us u.exercise.delayed_started (drop (length us) vs) (Some reached) → IfSome (Some reached) (MetOn (Asked peer_of journal reports height shown participants crashes holds (told_by entry.0 entry.1) start u) us) → vs ≡ us ++ done → EndsAt reached.states.items more states → Ends peer_of journal reports height shown holds verdict condition required participants crashes queue us u (done ++ more) states
+abbrev pub ends_of : {D E S C : Type 0} (peer_of : E → Peer) (journal : Option (E → List (StepEvent × StepOut))) (reports : Option (FinalizationUpdate → Bool)) (height : S → ℕ) (shown : S → List ℕ) (holds : List FinalizationUpdate → Bool → World D E S → Type 0) (verdict : C → TrackerView → List StateView → ℕ → Result Bool (List ℕ)) (condition : Option C) (required : ℕ) (participants : List Peer) (crashes : List Crash) (queue left : QueueView) (entry : (ℕ × ℕ) × Event) (start made : AgendaView) (us vs done more : List FinalizationUpdate) (u w : World D E S) (states : List StateView) (reached : Reached) → queue ≡ record left { entries = entry ∷ left.entries } → start ≡ empty_agenda left.next → Handles peer_of journal reports height participants crashes holds (Some reached) entry.0 entry.1 start made us vs u w → IsReached verdict condition required (target_count participants crashes w.exercise.delayed_started) vs reached → w.exercise.delayed_started ≡ started_by participants crashes us u.exercise.delayed_started (drop (length us) vs) (Some reached) → IfSome (Some reached) (MetOn (Asked peer_of journal reports height shown participants crashes holds (told_by entry.0 entry.1) (is_poll entry.1) start u) us) → vs ≡ us ++ done → EndsAt reached.states.items more states → Ends peer_of journal reports height shown holds verdict condition required participants crashes queue us u (done ++ more) states
 ends_of peer_of journal reports height shown holds verdict condition required participants crashes queue left entry start made us vs done more u w states reached taken nothing handled met started seen since over =
     let whole : done ≡ done ++ more = sym (append-nil done) ∙ ap (λ xs. done ++ xs) (sym over.0) in
     let same : vs ≡ us ++ (done ++ more) = since ∙ ap (λ xs. us ++ xs) whole in
@@ -130,7 +129,7 @@ ends_of peer_of journal reports height shown holds verdict condition required pa
       handles = subst (λ xs. Handles peer_of journal reports height participants crashes holds (Some reached) entry.0 entry.1 (empty_agenda queue.next) made us xs u w) same begun;
       met = subst (λ b. IsReached verdict condition required (target_count participants crashes b) (us ++ (done ++ more)) reached) counted
           (subst (λ xs. IsReached verdict condition required (target_count participants crashes w.exercise.delayed_started) xs reached) same met);
-      seen = subst (λ a. MetOn (Asked peer_of journal reports height shown participants crashes holds (told_by entry.0 entry.1) a u) us reached) (agenda_begun queue left entry start taken nothing) seen;
+      seen = subst (λ a. MetOn (Asked peer_of journal reports height shown participants crashes holds (told_by entry.0 entry.1) (is_poll entry.1) a u) us reached) (agenda_begun queue left entry start taken nothing) seen;
       are = over.1;
     }
 

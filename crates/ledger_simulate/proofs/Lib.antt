@@ -1,5 +1,6 @@
 pub mod Answering
 pub mod Beginning
+pub mod Building
 pub mod Causing
 pub mod Delaying
 pub mod Each

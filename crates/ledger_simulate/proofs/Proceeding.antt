@@ -1,5 +1,5 @@
 -- What a handled event does to the seats, the reports and the queue.
-use Rattle.std.proofs.Common.{◌≡◌, ◌≤◌, ◌+◌, ℕ, All, Bool, List, [], ◌∷◌, ◌++◌, IfOk, MatchOption, Option, Result, Some, None, length, map, refl, sym, ap, ◌∙◌, subst, arith, length-append}
+use Rattle.std.proofs.Common.{◌≡◌, ◌≤◌, ◌+◌, ℕ, All, Bool, List, [], ◌∷◌, ◌++◌, IfOk, MatchOption, Option, Result, Some, None, is_some, length, map, refl, sym, ap, ◌∙◌, subst, arith, length-append}
 use Rattle.std.proofs.lemmas.List.{append-nil}
 use Rattle.std.proofs.lemmas.List.Elements.{All-nil}
 use Rattle.std.specs.BTreeMap.Range.{IsLtBy}
@@ -11,7 +11,6 @@ use Rattle.simulate_parts.specs.declared.peer.Peer.{Peer}
 use Rattle.simulate_parts.specs.declared.schedule.Action.{Action}
 use Rattle.simulate_parts.specs.declared.tracker.FinalizationUpdate.{FinalizationUpdate}
 use Rattle.simulate_parts.specs.declared.schedule.Crash.{Crash}
-use Rattle.simulate_parts.specs.declared.seats.Seat.{Seat}
 use Rattle.ledger_simulate.specs.Failures.{tally_after, tally_of}
 use Rattle.ledger_simulate.specs.declared.reports.Reached.{Reached}
 use Rattle.ledger_simulate.proofs.Turning.{struck_disturbs}
@@ -36,11 +35,11 @@ pub record Leaves {D E S : Type 0} (peer_of : E → Peer) (reports : Option (Fin
   pub seated : Seated peer_of (number_after a) u.seats.entries → Seated peer_of (number_after b) v.seats.entries
   pub grows : Seated peer_of (number_after a) u.seats.entries → Grows reports us vs
 
-module _ {D E S : Type 0} (peer_of : E → Peer) (journal : Option (E → List (StepEvent × StepOut))) (reports : Option (FinalizationUpdate → Bool)) (height : S → ℕ) (participants : List Peer) (crashes : List Crash) (holds : List (Peer × Seat D E S) → Type 0) where
+module _ {D E S : Type 0} (peer_of : E → Peer) (journal : Option (E → List (StepEvent × StepOut))) (reports : Option (FinalizationUpdate → Bool)) (height : S → ℕ) (participants : List Peer) (crashes : List Crash) (holds : List FinalizationUpdate → Bool → World D E S → Type 0) where
   turns_leave : (o : Option Reached) (pk : Peer) (birth : ℕ) (event : StepEvent) (a b : AgendaView) (us vs : List FinalizationUpdate) (u v : World D E S) → Turns peer_of journal reports height participants crashes holds o pk birth event a b us vs u v → Leaves peer_of reports a b us vs u v
   turns_leave o pk birth event a b us vs u v turns =
       let gives = turns.gives in
-      let disturbs = struck_disturbs peer_of height participants crashes holds (striking us (updates_of pk turns.out.finalized) o) turns.given b turns.mid v turns.struck in
+      let disturbs = struck_disturbs peer_of height participants crashes holds (updates_of pk turns.out.finalized) (is_some o) (striking us (updates_of pk turns.out.finalized) o) turns.given b turns.mid v turns.struck in
       let made : List (ℕ × Event) = timers_of pk birth turns.out.timers in
       let sent : List (ℕ × Event) = (carried u turns.mid.seats.entries pk turns.out.messages).0 in
       let long : length turns.given.events ≡ length a.events + length made + length sent =

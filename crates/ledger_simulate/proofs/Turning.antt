@@ -1,14 +1,20 @@
 -- The failures that the reports of a step set off, one report after another.
-use Rattle.std.proofs.Common.{◌≡◌, ◌≤◌, ◌<◌, ◌+◌, ◌-◌, ℕ, zero, suc, Contains, IfSome, List, [], ◌∷◌, ◌++◌, MatchOption, Option, Some, None, length, refl, sym, ap, ◌∙◌, subst, arith, length-append}
+use Rattle.std.proofs.Common.{◌≡◌, ◌≤◌, ◌<◌, ◌+◌, ◌-◌, ℕ, zero, suc, Bool, true, false, Contains, IfSome, Result, is_some, take, List, [], ◌∷◌, ◌++◌, MatchOption, Option, Some, None, length, refl, sym, ap, ◌∙◌, subst, arith, length-append}
 use Rattle.std.proofs.lemmas.List.Elements.{Contains-append_left, Contains-append_right, Contains-push}
+use Rattle.std.proofs.lemmas.List.{append_assoc}
+use Rattle.simulate_parts.specs.Seats.{active_views}
+use Rattle.simulate_parts.specs.Tracker.{tracker_of}
+use Rattle.simulate_parts.specs.TrackerView.{TrackerView}
 use Rattle.simulate_parts.specs.declared.engine.StateView.{StateView}
 use Rattle.simulate_parts.specs.declared.peer.Peer.{Peer}
 use Rattle.simulate_parts.specs.declared.schedule.Crash.{Crash}
-use Rattle.simulate_parts.specs.declared.seats.Seat.{Seat}
 use Rattle.simulate_parts.specs.declared.tracker.FinalizationUpdate.{FinalizationUpdate}
 use Rattle.ledger_simulate.specs.Answering.{MetOn}
 use Rattle.ledger_simulate.specs.Handling.{Disturbs, Strikes, Struck, striking}
+use Rattle.ledger_simulate.specs.Plans.{target_count}
 use Rattle.ledger_simulate.specs.Queue.{AgendaView}
+use Rattle.ledger_simulate.specs.Reaching.{ExitIs}
+use Rattle.ledger_simulate.specs.Runs.{Finds}
 use Rattle.ledger_simulate.specs.declared.reports.Reached.{Reached}
 use Rattle.ledger_simulate.specs.declared.world.World.{World}
 use Rattle.ledger_simulate.proofs.Stirring.{disturbs_none, disturbs_then}
@@ -47,34 +53,67 @@ met_step seen before done now_reports new_reports None (Some r) update views sin
 met_step seen before done now_reports new_reports (Some q) (Some r) update views since grown here so_far counts states =
     (so_far.0, counts ∙ so_far.1, subst (seen so_far.0) (sym states) so_far.2)
 
-module _ {D E S : Type 0} (peer_of : E → Peer) (height : S → ℕ) (participants : List Peer) (crashes : List Crash) (holds : List (Peer × Seat D E S) → Type 0) where
-  strikes_disturb : (a b : AgendaView) (u v : World D E S) → Strikes peer_of height participants crashes holds a b u v → Disturbs peer_of a b u v
-  strikes_disturb a b u v strikes = disturbs_then peer_of a strikes.made b u strikes.mid v strikes.enters strikes.disturbs
+-- the first elements of a list, up to one of them
+take_upto : (done rest : List FinalizationUpdate) (update : FinalizationUpdate) → take (suc (length done)) (done ++ update ∷ rest) ≡ done ++ update ∷ []
+take_upto [] rest update = refl
+take_upto (u ∷ us) rest update = ap (λ xs. u ∷ xs) (take_upto us rest update)
 
+-- what was found at a report that is one of these
+pub finds_on : {F C D E S : Type 0} (complaint : F → List StateView → Option (List ℕ)) (checks : List F) (height : S → ℕ) (shown : S → List ℕ) (verdict : C → TrackerView → List StateView → ℕ → Result Bool (List ℕ)) (condition : Option C) (required : ℕ) (participants : List Peer) (crashes : List Crash) (now one before all done rest : List FinalizationUpdate) (update : FinalizationUpdate) (met : Bool) (w : World D E S) → now ≡ before ++ done → one ≡ update ∷ [] → all ≡ done ++ update ∷ rest → Finds complaint checks height shown verdict condition required participants crashes now one met w → Finds complaint checks height shown verdict condition required participants crashes before (take (suc (length done)) all) met w
+finds_on complaint checks height shown verdict condition required participants crashes now one before all done rest update met w since once whole finds =
+    let upto : done ++ one ≡ take (suc (length done)) all = ap (λ xs. done ++ xs) once ∙ sym (take_upto done rest update) ∙ sym (ap (take (suc (length done))) whole) in
+    let same : now ++ one ≡ before ++ take (suc (length done)) all = ap (λ xs. xs ++ one) since ∙ append_assoc before done one ∙ ap (λ xs. before ++ xs) upto in
+    record {
+      sound = finds.sound;
+      answers = subst (λ us. ExitIs verdict condition required (target_count participants crashes w.exercise.delayed_started) (tracker_of us) (active_views height shown w.seats.entries) met) same finds.answers;
+    }
+
+module _ {D E S : Type 0} (peer_of : E → Peer) (height : S → ℕ) (participants : List Peer) (crashes : List Crash) where
+  strikes_disturb : (P : World D E S → Type 0) (a b : AgendaView) (u v : World D E S) → Strikes peer_of height participants crashes P a b u v → Disturbs peer_of a b u v
+  strikes_disturb P a b u v strikes = disturbs_then peer_of a strikes.made b u strikes.mid v strikes.enters strikes.disturbs
+
+  -- a report that set failures off, by a wider fact
+  pub strikes_on : (P Q : World D E S → Type 0) (a b : AgendaView) (u v : World D E S) (prior : Option Reached) → ((w : World D E S) → P w → Q w) → MatchOption prior (Strikes peer_of height participants crashes P a b u v) (λ q. (b ≡ a) × (v ≡ u)) → MatchOption prior (Strikes peer_of height participants crashes Q a b u v) (λ q. (b ≡ a) × (v ≡ u))
+  strikes_on P Q a b u v None wider strikes = record {
+    made = strikes.made;
+    mid = strikes.mid;
+    unpassed = strikes.unpassed;
+    enters = strikes.enters;
+    entered = strikes.entered;
+    held = wider strikes.mid strikes.held;
+    disturbs = strikes.disturbs;
+    launched = strikes.launched;
+    launches = strikes.launches;
+    events = strikes.events;
+    tally = strikes.tally;
+  }
+  strikes_on P Q a b u v (Some q) wider same = same
+
+module _ {D E S : Type 0} (peer_of : E → Peer) (height : S → ℕ) (participants : List Peer) (crashes : List Crash) (holds : List FinalizationUpdate → Bool → World D E S → Type 0) (all : List FinalizationUpdate) where
   -- what they do to the engines
-  pub struck_disturbs : (n : ℕ) (a b : AgendaView) (u v : World D E S) → Struck peer_of height participants crashes holds n a b u v → Disturbs peer_of a b u v
-  struck_disturbs zero a b u v struck =
+  pub struck_disturbs : (met : Bool) (n : ℕ) (a b : AgendaView) (u v : World D E S) → Struck peer_of height participants crashes holds all met n a b u v → Disturbs peer_of a b u v
+  struck_disturbs met zero a b u v struck =
       subst (λ x. Disturbs peer_of a x u v) (sym struck.0) (subst (λ (w : World D E S). Disturbs peer_of a a u w) (sym struck.1) (disturbs_none peer_of a u))
-  struck_disturbs (suc n) a b u v struck =
-      disturbs_then peer_of a struck.0 b u struck.1 v (struck_disturbs n a struck.0 u struck.1 struck.2) (strikes_disturb struck.0 b struck.1 v struck.3)
+  struck_disturbs met (suc n) a b u v struck =
+      disturbs_then peer_of a struck.0 b u struck.1 v (struck_disturbs false n a struck.0 u struck.1 struck.2) (strikes_disturb peer_of height participants crashes (holds (take (suc n) all) met) struck.0 b struck.1 v struck.3)
 
   -- one report more
-  pub struck_step : (before done now_reports new_reports : List FinalizationUpdate) (prior next : Option Reached) (update : FinalizationUpdate) (a m b : AgendaView) (u w v : World D E S) → now_reports ≡ before ++ done → new_reports ≡ now_reports ++ update ∷ [] → Struck peer_of height participants crashes holds (striking before done prior) a m u w → (next ≡ None → prior ≡ None) → IfSome next (λ r. MatchOption prior (r.count ≡ length new_reports) (λ q. r.count ≡ q.count)) → MatchOption prior (Strikes peer_of height participants crashes holds m b w v) (λ q. (b ≡ m) × (v ≡ w)) → Struck peer_of height participants crashes holds (striking before (done ++ update ∷ []) next) a b u v
-  struck_step before done now_reports new_reports None None update a m b u w v since grown struck none met strikes =
+  pub struck_step : (before done rest now_reports new_reports : List FinalizationUpdate) (prior next : Option Reached) (update : FinalizationUpdate) (a m b : AgendaView) (u w v : World D E S) → now_reports ≡ before ++ done → new_reports ≡ now_reports ++ update ∷ [] → Struck peer_of height participants crashes holds all (is_some prior) (striking before done prior) a m u w → (next ≡ None → prior ≡ None) → IfSome next (λ r. MatchOption prior (r.count ≡ length new_reports) (λ q. r.count ≡ q.count)) → MatchOption prior (Strikes peer_of height participants crashes (holds (take (suc (length done)) all) (is_some next)) m b w v) (λ q. (b ≡ m) × (v ≡ w)) → Struck peer_of height participants crashes holds all (is_some next) (striking before (done ++ update ∷ []) next) a b u v
+  struck_step before done rest now_reports new_reports None None update a m b u w v since grown struck none met strikes =
       let more : suc (length done) ≡ length (done ++ update ∷ []) = sym (length-append done (update ∷ []) ∙ omega arith) in
-      subst (λ n. Struck peer_of height participants crashes holds n a b u v) more (m, w, struck, strikes)
-  struck_step before done now_reports new_reports None (Some r) update a m b u w v since grown struck none met strikes =
-      let all : length now_reports ≡ length before + length done = ap length since ∙ length-append before done in
+      subst (λ n. Struck peer_of height participants crashes holds all false n a b u v) more (m, w, struck, strikes)
+  struck_step before done rest now_reports new_reports None (Some r) update a m b u w v since grown struck none met strikes =
+      let whole : length now_reports ≡ length before + length done = ap length since ∙ length-append before done in
       let long : length new_reports ≡ length now_reports + 1 = ap length grown ∙ length-append now_reports (update ∷ []) in
       let at : r.count ≡ length new_reports = met in
       let more : suc (length done) ≡ r.count - length before = omega arith in
-      subst (λ n. Struck peer_of height participants crashes holds n a b u v) more (m, w, struck, strikes)
-  struck_step before done now_reports new_reports (Some q) None update a m b u w v since grown struck none met strikes = absurd (some_none (none refl))
+      subst (λ n. Struck peer_of height participants crashes holds all true n a b u v) more (m, w, struck, strikes)
+  struck_step before done rest now_reports new_reports (Some q) None update a m b u w v since grown struck none met strikes = absurd (some_none (none refl))
     where
       some_none : Some q ≡ None → ⊥
       some_none e = cc
-  struck_step before done now_reports new_reports (Some q) (Some r) update a m b u w v since grown struck none met strikes =
+  struck_step before done rest now_reports new_reports (Some q) (Some r) update a m b u w v since grown struck none met strikes =
       let same : r.count - length before ≡ q.count - length before = ap (λ n. n - length before) met in
-      subst (λ n. Struck peer_of height participants crashes holds n a b u v) (sym same)
-      (subst (λ x. Struck peer_of height participants crashes holds (q.count - length before) a x u v) (sym strikes.0)
-      (subst (λ (x : World D E S). Struck peer_of height participants crashes holds (q.count - length before) a m u x) (sym strikes.1) struck))
+      subst (λ n. Struck peer_of height participants crashes holds all true n a b u v) (sym same)
+      (subst (λ x. Struck peer_of height participants crashes holds all true (q.count - length before) a x u v) (sym strikes.0)
+      (subst (λ (x : World D E S). Struck peer_of height participants crashes holds all true (q.count - length before) a m u x) (sym strikes.1) struck))

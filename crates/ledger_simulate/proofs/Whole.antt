@@ -1,5 +1,9 @@
 -- Whole runs: a simulation stepped from its opening to its end.
-use Rattle.std.proofs.Common.{◌≡◌, ◌<◌, ◌+◌, ℕ, zero, suc, List, [], ◌∷◌, ◌++◌, MatchOption, None, Some, Result, Ok, Err, drop, get_or, length, take, refl, sym, ap, ◌∙◌, subst}
+use Rattle.std.proofs.Common.{◌≡◌, ◌<◌, ◌+◌, ℕ, zero, suc, All, Bool, Option, List, [], ◌∷◌, ◌++◌, MatchOption, None, Some, Result, Ok, Err, drop, get_or, length, take, refl, sym, ap, ◌∙◌, subst}
+use Rattle.std.proofs.lemmas.List.Elements.{All-append, All-nil}
+use Rattle.simulate_parts.specs.Engine.{Passes}
+use Rattle.simulate_parts.specs.declared.tracker.FinalizationUpdate.{FinalizationUpdate}
+use Rattle.ledger_simulate.specs.Handling.{Grows, Seated}
 use Rattle.std.proofs.lemmas.List.{drop_more, take-append-drop}
 use Rattle.ledger_simulate.specs.Results.{EndedView, ResultView}
 use Rattle.ledger_simulate.specs.Stepping.{Course, Fails, FailsAt, Finishes, Goes, GoesOn, Meaning, Opens, RunsAll, RunsTo, Steps, StopsAt, early_of}
@@ -7,6 +11,17 @@ use Rattle.ledger_simulate.specs.declared.fault.PlanFault.{PlanFault}
 use Rattle.ledger_simulate.specs.declared.simulation.SimEnd.{SimEnd}
 use Rattle.ledger_simulate.specs.declared.simulation.SimEnd.TheVariants.{Fault, OutOfMemory}
 use Rattle.ledger_simulate.proofs.Outcomes.{each_more, seeds_more}
+
+-- more reports that pass
+grown_pass : (reports : Option (FinalizationUpdate → Bool)) (us vs : List FinalizationUpdate) → Grows reports us vs → All (Passes reports) us → All (Passes reports) vs
+grown_pass reports us vs grows passes = subst (All (Passes reports)) (sym grows.is) (All-append (Passes reports) us grows.added passes grows.passes)
+
+-- each engine that runs stays its peer's, and each report passes
+goes_pass : {D E S F P C : Type 0} (m : Meaning D E S F P C) (n : ℕ) (s t : Course D E S) → Goes m n s t → Seated m.peer_of s.queue.next s.world.seats.entries × All (Passes m.reports) s.updates → Seated m.peer_of t.queue.next t.world.seats.entries × All (Passes m.reports) t.updates
+goes_pass {D} {E} {S} m zero s t same held = subst (λ (x : Course D E S). Seated m.peer_of x.queue.next x.world.seats.entries × All (Passes m.reports) x.updates) (sym same) held
+goes_pass m (suc n) s t goes held =
+    let before = goes_pass m n s goes.0 goes.1 held in
+    (goes.2.proceeds.seated before.0, grown_pass m.reports goes.0.updates t.updates (goes.2.proceeds.grows before.0) before.1)
 
 module _ {D E S F P C : Type 0} (m : Meaning D E S F P C) (seed : ℕ) where
   -- a new run of the plan came here
@@ -28,9 +43,8 @@ module _ {D E S F P C : Type 0} (m : Meaning D E S F P C) (seed : ℕ) where
     end = refl;
   }
 
-  -- it ends with a result
-  pub came_well : (s : Course D E S) (r : ResultView) → Came s → Finishes m s r → RunsTo m seed (Ok r)
-  came_well s r came well = record {
+  came_ends : (s : Course D E S) (r : ResultView) → Came s → Finishes m s r → Steps m seed (λ x. Finishes m x r)
+  came_ends s r came well = record {
     first = came.first;
     last = came.last;
     count = came.count;
@@ -38,6 +52,17 @@ module _ {D E S F P C : Type 0} (m : Meaning D E S F P C) (seed : ℕ) where
     goes = came.goes;
     end = subst (λ x. Finishes m x r) (sym came.end) well;
   }
+
+  -- what it reported passes
+  steps_pass : (r : ResultView) → Steps m seed (λ x. Finishes m x r) → All (Passes m.reports) r.updates
+  steps_pass r steps =
+      let none : All (Passes m.reports) steps.first.updates = subst (All (Passes m.reports)) (sym steps.opens.updates) (All-nil (Passes m.reports)) in
+      let before = goes_pass m steps.count steps.first steps.last steps.goes (steps.opens.seated, none) in
+      grown_pass m.reports steps.last.updates r.updates (steps.end.reports before.0) before.1
+
+  -- it ends with a result
+  pub came_well : (s : Course D E S) (r : ResultView) → Came s → Finishes m s r → RunsTo m seed (Ok r)
+  came_well s r came well = (came_ends s r came well, steps_pass r (came_ends s r came well))
 
   came_ill : (s : Course D E S) (e : EndedView) → Came s → Fails m s e → Steps m seed (λ x. Fails m x e)
   came_ill s e came ill = record {
@@ -61,7 +86,7 @@ module _ {D E S F P C : Type 0} (m : Meaning D E S F P C) where
 
   -- a result shows the seed of its run
   pub ran_seed : (seed : ℕ) (r : ResultView) → RunsTo m seed (Ok r) → r.seed ≡ seed
-  ran_seed seed r ran = ran.end.seed ∙ goes_seed ran.count ran.first ran.last ran.goes ∙ ran.opens.seed_is
+  ran_seed seed r ran = ran.0.end.seed ∙ goes_seed ran.0.count ran.0.first ran.0.last ran.0.goes ∙ ran.0.opens.seed_is
 
   -- one run more
   pub ran_more : (seeds : List ℕ) (i : ℕ) (rs new : List ResultView) (r : ResultView) → new ≡ rs ++ r ∷ [] → i < length seeds → RunsTo m (get_or seeds i 0) (Ok r) → RunsAll m (take i seeds) rs → RunsAll m (take (i + 1) seeds) new

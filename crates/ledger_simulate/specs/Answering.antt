@@ -1,5 +1,5 @@
 -- What the checks of a plan answered, where one of them ends a run.
-use Rattle.std.specs.Prelude.{◌≡◌, ◌⊎◌, ◌+◌, ℕ, Bool, List, [], ◌∷◌, ◌++◌, Option, Some, None, Result, Err, Contains, length}
+use Rattle.std.specs.Prelude.{◌≡◌, ◌⊎◌, ◌+◌, ℕ, Bool, List, [], ◌∷◌, ◌++◌, IsTrue, false, Option, Some, Result, Err, Contains, length}
 use Rattle.simulate_parts.specs.Engine.{Passes, updates_of}
 use Rattle.simulate_parts.specs.Seats.{active_views}
 use Rattle.simulate_parts.specs.Tracker.{tracker_of}
@@ -9,13 +9,12 @@ use Rattle.simulate_parts.specs.declared.engine.StepEvent.{StepEvent}
 use Rattle.simulate_parts.specs.declared.engine.StepOut.{StepOut}
 use Rattle.simulate_parts.specs.declared.peer.Peer.{Peer}
 use Rattle.simulate_parts.specs.declared.schedule.Crash.{Crash}
-use Rattle.simulate_parts.specs.declared.seats.Seat.{Seat}
 use Rattle.simulate_parts.specs.declared.tracker.FinalizationUpdate.{FinalizationUpdate}
 use Rattle.ledger_simulate.specs.Causes.{SkipsAmong}
 use Rattle.ledger_simulate.specs.Delays.{started_where, target_at}
 use Rattle.ledger_simulate.specs.Exercise.{missed_by}
 use Rattle.ledger_simulate.specs.Failures.{views_checked}
-use Rattle.ledger_simulate.specs.Handling.{Gives, Handles, Seated, Struck, birth_at, number_after, told_by}
+use Rattle.ledger_simulate.specs.Handling.{Gives, Handles, Seated, Struck, birth_at, is_poll, number_after, told_by}
 use Rattle.ledger_simulate.specs.Plans.{target_count}
 use Rattle.ledger_simulate.specs.Queue.{AgendaView, QueueView, empty_agenda}
 use Rattle.ledger_simulate.specs.Reaching.{IsReached}
@@ -28,7 +27,7 @@ use Rattle.ledger_simulate.specs.declared.reports.Reached.{Reached}
 use Rattle.ledger_simulate.specs.declared.world.World.{World}
 
 -- the states that checks see at one of these reports, after those before it had set failures off
-pub record Sees {D E S : Type 0} (peer_of : E → Peer) (height : S → ℕ) (shown : S → List ℕ) (participants : List Peer) (crashes : List Crash) (holds : List (Peer × Seat D E S) → Type 0) (a : AgendaView) (u : World D E S) (updates more : List FinalizationUpdate) (states : List StateView) : Type 0 where
+pub record Sees {D E S : Type 0} (peer_of : E → Peer) (height : S → ℕ) (shown : S → List ℕ) (participants : List Peer) (crashes : List Crash) (holds : List FinalizationUpdate → Bool → World D E S → Type 0) (a : AgendaView) (u : World D E S) (updates more : List FinalizationUpdate) (states : List StateView) : Type 0 where
   pub earlier : List FinalizationUpdate
   pub update : FinalizationUpdate
   pub rest : List FinalizationUpdate
@@ -36,7 +35,7 @@ pub record Sees {D E S : Type 0} (peer_of : E → Peer) (height : S → ℕ) (sh
   pub upto : more ≡ earlier ++ update ∷ []
   pub made : AgendaView
   pub world : World D E S
-  pub struck : Struck peer_of height participants crashes holds (length earlier) a made u world
+  pub struck : Struck peer_of height participants crashes holds updates false (length earlier) a made u world
   pub are : states ≡ views_checked height shown crashes world
 
 -- the engine that was to be told this took one step
@@ -64,30 +63,30 @@ pub record ReportsThen {D E S : Type 0} (peer_of : E → Peer) (journal : Option
   pub passes : Seated peer_of (number_after a) u.seats.entries → Passes reports update
 
 -- the states that checks see at a report of that step
-pub record SeesAfter {D E S : Type 0} (peer_of : E → Peer) (journal : Option (E → List (StepEvent × StepOut))) (reports : Option (FinalizationUpdate → Bool)) (height : S → ℕ) (shown : S → List ℕ) (participants : List Peer) (crashes : List Crash) (holds : List (Peer × Seat D E S) → Type 0) (told : Option (Peer × Option ℕ × StepEvent)) (a : AgendaView) (u : World D E S) (more : List FinalizationUpdate) (states : List StateView) : Type 0 where
+pub record SeesAfter {D E S : Type 0} (peer_of : E → Peer) (journal : Option (E → List (StepEvent × StepOut))) (reports : Option (FinalizationUpdate → Bool)) (height : S → ℕ) (shown : S → List ℕ) (participants : List Peer) (crashes : List Crash) (holds : List FinalizationUpdate → Bool → World D E S → Type 0) (told : Option (Peer × Option ℕ × StepEvent)) (a : AgendaView) (u : World D E S) (more : List FinalizationUpdate) (states : List StateView) : Type 0 where
   pub took : Took peer_of journal reports told a u
   pub sees : Sees peer_of height shown participants crashes holds took.given took.mid (reported_by took) more states
 
 -- a report of that step found this height above a window that wasn't entered, after those before it had set
 -- failures off
-pub record SkipsAfter {D E S : Type 0} (peer_of : E → Peer) (journal : Option (E → List (StepEvent × StepOut))) (reports : Option (FinalizationUpdate → Bool)) (height : S → ℕ) (participants : List Peer) (crashes : List Crash) (holds : List (Peer × Seat D E S) → Type 0) (told : Option (Peer × Option ℕ × StepEvent)) (a : AgendaView) (u : World D E S) (skipped : ℕ) : Type 0 where
+pub record SkipsAfter {D E S : Type 0} (peer_of : E → Peer) (journal : Option (E → List (StepEvent × StepOut))) (reports : Option (FinalizationUpdate → Bool)) (height : S → ℕ) (participants : List Peer) (crashes : List Crash) (holds : List FinalizationUpdate → Bool → World D E S → Type 0) (told : Option (Peer × Option ℕ × StepEvent)) (a : AgendaView) (u : World D E S) (skipped : ℕ) : Type 0 where
   pub took : Took peer_of journal reports told a u
-  pub skips : SkipsAmong peer_of height participants crashes holds (length (reported_by took)) took.given took.mid skipped
+  pub skips : SkipsAmong peer_of height participants crashes holds (reported_by took) took.given took.mid skipped
 
--- the exit condition is asked of no report, on the states of the engines that run, where the event tells no engine
-abbrev pub IsPolled : {D E S : Type 0} → (S → ℕ) → (S → List ℕ) → Option (Peer × Option ℕ × StepEvent) → World D E S → List FinalizationUpdate → List StateView → Type 0
-IsPolled height shown told u more states = (told ≡ None) × (more ≡ []) × (states ≡ active_views height shown u.seats.entries)
+-- the exit condition is asked of no report, on the states of the engines that run, where the event is a poll
+abbrev pub IsPolled : {D E S : Type 0} → (S → ℕ) → (S → List ℕ) → Bool → World D E S → List FinalizationUpdate → List StateView → Type 0
+IsPolled height shown polled u more states = IsTrue polled × (more ≡ []) × (states ≡ active_views height shown u.seats.entries)
 
 -- the reports and the states with which the exit condition is asked in a step that tells an engine this, if it is
--- for one
-abbrev pub Asked : {D E S : Type 0} → (E → Peer) → Option (E → List (StepEvent × StepOut)) → Option (FinalizationUpdate → Bool) → (S → ℕ) → (S → List ℕ) → List Peer → List Crash → (List (Peer × Seat D E S) → Type 0) → Option (Peer × Option ℕ × StepEvent) → AgendaView → World D E S → List FinalizationUpdate → List StateView → Type 0
-Asked peer_of journal reports height shown participants crashes holds told a u more states =
-    IsPolled height shown told u more states ⊎ SeesAfter peer_of journal reports height shown participants crashes holds told a u more states
+-- for one, and that is a poll, if it is
+abbrev pub Asked : {D E S : Type 0} → (E → Peer) → Option (E → List (StepEvent × StepOut)) → Option (FinalizationUpdate → Bool) → (S → ℕ) → (S → List ℕ) → List Peer → List Crash → (List FinalizationUpdate → Bool → World D E S → Type 0) → Option (Peer × Option ℕ × StepEvent) → Bool → AgendaView → World D E S → List FinalizationUpdate → List StateView → Type 0
+Asked peer_of journal reports height shown participants crashes holds told polled a u more states =
+    IsPolled height shown polled u more states ⊎ SeesAfter peer_of journal reports height shown participants crashes holds told a u more states
 
 -- the same, and how many participants count for it then
-abbrev pub Asks : {D E S : Type 0} → (E → Peer) → Option (E → List (StepEvent × StepOut)) → Option (FinalizationUpdate → Bool) → (S → ℕ) → (S → List ℕ) → List Peer → List Crash → (List (Peer × Seat D E S) → Type 0) → Option (Peer × Option ℕ × StepEvent) → List FinalizationUpdate → AgendaView → World D E S → List FinalizationUpdate → List StateView → ℕ → Type 0
-Asks peer_of journal reports height shown participants crashes holds told before a u more states target =
-    Asked peer_of journal reports height shown participants crashes holds told a u more states
+abbrev pub Asks : {D E S : Type 0} → (E → Peer) → Option (E → List (StepEvent × StepOut)) → Option (FinalizationUpdate → Bool) → (S → ℕ) → (S → List ℕ) → List Peer → List Crash → (List FinalizationUpdate → Bool → World D E S → Type 0) → Option (Peer × Option ℕ × StepEvent) → Bool → List FinalizationUpdate → AgendaView → World D E S → List FinalizationUpdate → List StateView → ℕ → Type 0
+Asks peer_of journal reports height shown participants crashes holds told polled before a u more states target =
+    Asked peer_of journal reports height shown participants crashes holds told polled a u more states
     × (target ≡ target_at participants crashes before u.exercise.delayed_started more)
 
 -- the exit condition was met after so many reports behind these, on states that were seen then
@@ -100,7 +99,7 @@ abbrev pub EndsAt : List StateView → List FinalizationUpdate → List StateVie
 EndsAt reached more states = (more ≡ []) × (states ≡ reached)
 
 -- the first event was handled, with these reports more, and the exit condition answered true on these states
-pub record Ends {D E S C : Type 0} (peer_of : E → Peer) (journal : Option (E → List (StepEvent × StepOut))) (reports : Option (FinalizationUpdate → Bool)) (height : S → ℕ) (shown : S → List ℕ) (holds : List (Peer × Seat D E S) → Type 0) (verdict : C → TrackerView → List StateView → ℕ → Result Bool (List ℕ)) (condition : Option C) (required : ℕ) (participants : List Peer) (crashes : List Crash) (queue : QueueView) (before : List FinalizationUpdate) (u : World D E S) (more : List FinalizationUpdate) (states : List StateView) : Type 0 where
+pub record Ends {D E S C : Type 0} (peer_of : E → Peer) (journal : Option (E → List (StepEvent × StepOut))) (reports : Option (FinalizationUpdate → Bool)) (height : S → ℕ) (shown : S → List ℕ) (holds : List FinalizationUpdate → Bool → World D E S → Type 0) (verdict : C → TrackerView → List StateView → ℕ → Result Bool (List ℕ)) (condition : Option C) (required : ℕ) (participants : List Peer) (crashes : List Crash) (queue : QueueView) (before : List FinalizationUpdate) (u : World D E S) (more : List FinalizationUpdate) (states : List StateView) : Type 0 where
   pub entry : (ℕ × ℕ) × Event
   pub rest : List ((ℕ × ℕ) × Event)
   pub first : queue.entries ≡ entry ∷ rest
@@ -109,11 +108,11 @@ pub record Ends {D E S C : Type 0} (peer_of : E → Peer) (journal : Option (E �
   pub reached : Reached
   pub handles : Handles peer_of journal reports height participants crashes holds (Some reached) entry.0 entry.1 (empty_agenda queue.next) made before (before ++ more) u after
   pub met : IsReached verdict condition required (target_count participants crashes (started_where participants crashes before u.exercise.delayed_started reached.count more)) (before ++ more) reached
-  pub seen : MetOn (Asked peer_of journal reports height shown participants crashes holds (told_by entry.0 entry.1) (empty_agenda queue.next) u) before reached
+  pub seen : MetOn (Asked peer_of journal reports height shown participants crashes holds (told_by entry.0 entry.1) (is_poll entry.1) (empty_agenda queue.next) u) before reached
   pub are : states ≡ reached.states.items
 
 -- the first event was handled, the exit condition was met, and the first failure that came to nothing is this one
-abbrev pub MissesAt : {D E S C : Type 0} → (E → Peer) → Option (E → List (StepEvent × StepOut)) → Option (FinalizationUpdate → Bool) → (S → ℕ) → (S → List ℕ) → (List (Peer × Seat D E S) → Type 0) → (C → TrackerView → List StateView → ℕ → Result Bool (List ℕ)) → Option C → ℕ → List Peer → List Crash → QueueView → List FinalizationUpdate → World D E S → ℕ → Type 0
+abbrev pub MissesAt : {D E S C : Type 0} → (E → Peer) → Option (E → List (StepEvent × StepOut)) → Option (FinalizationUpdate → Bool) → (S → ℕ) → (S → List ℕ) → (List FinalizationUpdate → Bool → World D E S → Type 0) → (C → TrackerView → List StateView → ℕ → Result Bool (List ℕ)) → Option C → ℕ → List Peer → List Crash → QueueView → List FinalizationUpdate → World D E S → ℕ → Type 0
 MissesAt peer_of journal reports height shown holds verdict condition required participants crashes queue before u index =
     (more : List FinalizationUpdate) × (states : List StateView) × (end : Ends peer_of journal reports height shown holds verdict condition required participants crashes queue before u more states) × (missed_by end.after.exercise crashes ≡ Some index)
 

@@ -1,8 +1,7 @@
 -- What the faults that end a run while an event is handled come from.
-use Rattle.std.specs.Prelude.{◌≡◌, ◌⊎◌, ◌<◌, ℕ, Bool, true, false, List, ◌++◌, Some}
+use Rattle.std.specs.Prelude.{◌≡◌, ◌⊎◌, ◌<◌, ℕ, Bool, true, false, List, ◌++◌, Some, length}
 use Rattle.simulate_parts.specs.Tracker.{observe_fault, tracker_of}
 use Rattle.simulate_parts.specs.declared.schedule.Crash.{Crash}
-use Rattle.simulate_parts.specs.declared.seats.Seat.{Seat}
 use Rattle.simulate_parts.specs.declared.tracker.FinalizationUpdate.{FinalizationUpdate}
 use Rattle.simulate_parts.specs.declared.tracker.ObserveFault.{ObserveFault}
 use Rattle.simulate_parts.specs.declared.peer.Peer.{Peer}
@@ -32,14 +31,14 @@ abbrev pub stops_asked : Stop → Bool
 stops_asked (Fault fault) = is_asked fault
 stops_asked OutOfMemory = true
 
--- at one of so many reports, after those before it had set failures off, this height was found above a window that
+-- at one of these reports, after those before it had set failures off, this height was found above a window that
 -- wasn't entered
-pub record SkipsAmong {D E S : Type 0} (peer_of : E → Peer) (height : S → ℕ) (participants : List Peer) (crashes : List Crash) (holds : List (Peer × Seat D E S) → Type 0) (reports : ℕ) (a : AgendaView) (u : World D E S) (skipped : ℕ) : Type 0 where
+pub record SkipsAmong {D E S : Type 0} (peer_of : E → Peer) (height : S → ℕ) (participants : List Peer) (crashes : List Crash) (holds : List FinalizationUpdate → Bool → World D E S → Type 0) (updates : List FinalizationUpdate) (a : AgendaView) (u : World D E S) (skipped : ℕ) : Type 0 where
   pub count : ℕ
-  pub within : count < reports
+  pub within : count < length updates
   pub made : AgendaView
   pub world : World D E S
-  pub struck : Struck peer_of height participants crashes holds count a made u world
+  pub struck : Struck peer_of height participants crashes holds updates false count a made u world
   pub skips : first_passed height 0 crashes (standing_of world) ≡ Some skipped
 
 -- a window was passed, or memory was wanting

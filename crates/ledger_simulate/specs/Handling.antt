@@ -1,5 +1,6 @@
 -- Handling an event: what an engine is told and gives, and what the failures do to the others.
-use Rattle.std.specs.Prelude.{◌≡◌, ◌<◌, ◌+◌, ◌-◌, ℕ, zero, suc, Bool, true, false, IsTrue, List, ◌++◌, Option, Some, None, MatchOption, All, length, option_map, option_and_then, slice_get, if◌then◌else◌}
+use Rattle.std.specs.Prelude.{◌≡◌, ◌<◌, ◌+◌, ◌-◌, ℕ, zero, suc, Bool, true, false, IsTrue, List, ◌++◌, Option, Some, None, MatchOption, All, is_some, length, option_map, option_and_then, slice_get, take, if◌then◌else◌}
+use Rattle.std.specs.Option.{option_map_or}
 use Rattle.rand_pcg.specs.Lcg.{Lcg}
 use Rattle.simulate_parts.specs.Engine.{Passes, updates_of}
 use Rattle.simulate_parts.specs.Seats.{Steps, running_at, runs, runs_since}
@@ -66,26 +67,28 @@ pub record Disturbs {D E S : Type 0} (peer_of : E → Peer) (a b : AgendaView) (
   pub words : v.words ≡ u.words
   pub links : v.links ≡ u.links
 
--- a report sets failures off: no window was passed, windows are entered, this holds of the engines, and then the
--- delayed participants may be started
-pub record Strikes {D E S : Type 0} (peer_of : E → Peer) (height : S → ℕ) (participants : List Peer) (crashes : List Crash) (holds : List (Peer × Seat D E S) → Type 0) (a b : AgendaView) (u v : World D E S) : Type 0 where
+-- a report sets failures off: no window was passed, windows are entered, this holds then, and after that the delayed
+-- participants may be started
+pub record Strikes {D E S : Type 0} (peer_of : E → Peer) (height : S → ℕ) (participants : List Peer) (crashes : List Crash) (holds : World D E S → Type 0) (a b : AgendaView) (u v : World D E S) : Type 0 where
   pub made : AgendaView
   pub mid : World D E S
   pub unpassed : first_passed height 0 crashes (standing_of u) ≡ None
   pub enters : Disturbs peer_of a made u mid
   pub entered : standing_of mid ≡ windows_entered height 0 crashes (standing_of u)
-  pub held : holds mid.seats.entries
+  pub held : holds mid
   pub disturbs : Disturbs peer_of made b mid v
   pub launched : List Peer
   pub launches : Launches participants crashes mid.exercise.delayed_started v.exercise.delayed_started launched
   pub events : b.events ≡ made.events ++ starts launched
   pub tally : tally_of v.exercise ≡ tally_of mid.exercise
 
--- so many reports, one after another, set failures off
-abbrev pub Struck : {D E S : Type 0} → (E → Peer) → (S → ℕ) → List Peer → List Crash → (List (Peer × Seat D E S) → Type 0) → ℕ → AgendaView → AgendaView → World D E S → World D E S → Type 0
-Struck peer_of height participants crashes holds zero a b u v = (b ≡ a) × (v ≡ u)
-Struck {D} {E} {S} peer_of height participants crashes holds (suc n) a b u v =
-    (m : AgendaView) × (w : World D E S) × Struck peer_of height participants crashes holds n a m u w × Strikes peer_of height participants crashes holds m b w v
+-- the first so many of these reports, one after another, set failures off: this holds as each of them did, where the
+-- exit condition answered false at all but the last, and so at that one
+abbrev pub Struck : {D E S : Type 0} → (E → Peer) → (S → ℕ) → List Peer → List Crash → (List FinalizationUpdate → Bool → World D E S → Type 0) → List FinalizationUpdate → Bool → ℕ → AgendaView → AgendaView → World D E S → World D E S → Type 0
+Struck peer_of height participants crashes holds more met zero a b u v = (b ≡ a) × (v ≡ u)
+Struck {D} {E} {S} peer_of height participants crashes holds more met (suc n) a b u v =
+    (m : AgendaView) × (w : World D E S) × Struck peer_of height participants crashes holds more false n a m u w
+    × Strikes peer_of height participants crashes (holds (take (suc n) more) met) m b w v
 
 -- how many of a step's reports, behind earlier ones, set failures off: all, or those up to where the exit
 -- condition was met
@@ -115,20 +118,20 @@ birth_at seats pk None = option_map (λ r. r.birth) (running_at seats pk)
 birth_at seats pk (Some birth) = if runs_since seats pk birth then Some birth else None
 
 -- an engine took one step, and its reports were observed, with the failures that they set off
-pub record Turns {D E S : Type 0} (peer_of : E → Peer) (journal : Option (E → List (StepEvent × StepOut))) (reports : Option (FinalizationUpdate → Bool)) (height : S → ℕ) (participants : List Peer) (crashes : List Crash) (holds : List (Peer × Seat D E S) → Type 0) (reached : Option Reached) (pk : Peer) (birth : ℕ) (event : StepEvent) (a b : AgendaView) (us vs : List FinalizationUpdate) (u v : World D E S) : Type 0 where
+pub record Turns {D E S : Type 0} (peer_of : E → Peer) (journal : Option (E → List (StepEvent × StepOut))) (reports : Option (FinalizationUpdate → Bool)) (height : S → ℕ) (participants : List Peer) (crashes : List Crash) (holds : List FinalizationUpdate → Bool → World D E S → Type 0) (reached : Option Reached) (pk : Peer) (birth : ℕ) (event : StepEvent) (a b : AgendaView) (us vs : List FinalizationUpdate) (u v : World D E S) : Type 0 where
   pub out : StepOut
   pub given : AgendaView
   pub mid : World D E S
   pub gives : Gives peer_of journal reports pk birth event out a given u mid
   pub reported : vs ≡ us ++ updates_of pk out.finalized
-  pub struck : Struck peer_of height participants crashes holds (striking us (updates_of pk out.finalized) reached) given b mid v
+  pub struck : Struck peer_of height participants crashes holds (updates_of pk out.finalized) (is_some reached) (striking us (updates_of pk out.finalized) reached) given b mid v
 
 -- nothing happened
 abbrev pub Rests : {D E S : Type 0} → AgendaView → AgendaView → List FinalizationUpdate → List FinalizationUpdate → World D E S → World D E S → Type 0
 Rests a b us vs u v = (b ≡ a) × (vs ≡ us) × (v ≡ u)
 
 -- the engine that an event is for took a step, where it still runs
-abbrev pub Tells : {D E S : Type 0} → (E → Peer) → Option (E → List (StepEvent × StepOut)) → Option (FinalizationUpdate → Bool) → (S → ℕ) → List Peer → List Crash → (List (Peer × Seat D E S) → Type 0) → Option Reached → Peer → Option ℕ → StepEvent → AgendaView → AgendaView → List FinalizationUpdate → List FinalizationUpdate → World D E S → World D E S → Type 0
+abbrev pub Tells : {D E S : Type 0} → (E → Peer) → Option (E → List (StepEvent × StepOut)) → Option (FinalizationUpdate → Bool) → (S → ℕ) → List Peer → List Crash → (List FinalizationUpdate → Bool → World D E S → Type 0) → Option Reached → Peer → Option ℕ → StepEvent → AgendaView → AgendaView → List FinalizationUpdate → List FinalizationUpdate → World D E S → World D E S → Type 0
 Tells peer_of journal reports height participants crashes holds reached pk birth event a b us vs u v =
     MatchOption (birth_at u.seats.entries pk birth) (Rests a b us vs u v) (λ n. Turns peer_of journal reports height participants crashes holds reached pk n event a b us vs u v)
 
@@ -148,12 +151,26 @@ told_by key CrashTick = None
 told_by key ExitPoll = None
 told_by key (Recover pk) = None
 
+-- the event polls the exit condition
+abbrev pub is_poll : Event → Bool
+is_poll (Started pk) = false
+is_poll (Timer pk birth) = false
+is_poll (Received from to channel bytes) = false
+is_poll (Act action) = false
+is_poll CrashTick = false
+is_poll ExitPoll = true
+is_poll (Recover pk) = false
+
 -- what the first event of a queue tells an engine
 abbrev pub told_first : QueueView → Option (Peer × Option ℕ × StepEvent)
 told_first q = option_and_then (λ e. told_by e.0 e.1) (slice_get q.entries 0)
 
+-- the first event of a queue polls the exit condition
+abbrev pub polls_first : QueueView → Bool
+polls_first q = option_map_or (λ e. is_poll e.1) (slice_get q.entries 0) false
+
 -- the event of this time and number was handled, and the exit condition was met there, if it was
-abbrev pub Handles : {D E S : Type 0} → (E → Peer) → Option (E → List (StepEvent × StepOut)) → Option (FinalizationUpdate → Bool) → (S → ℕ) → List Peer → List Crash → (List (Peer × Seat D E S) → Type 0) → Option Reached → ℕ × ℕ → Event → AgendaView → AgendaView → List FinalizationUpdate → List FinalizationUpdate → World D E S → World D E S → Type 0
+abbrev pub Handles : {D E S : Type 0} → (E → Peer) → Option (E → List (StepEvent × StepOut)) → Option (FinalizationUpdate → Bool) → (S → ℕ) → List Peer → List Crash → (List FinalizationUpdate → Bool → World D E S → Type 0) → Option Reached → ℕ × ℕ → Event → AgendaView → AgendaView → List FinalizationUpdate → List FinalizationUpdate → World D E S → World D E S → Type 0
 Handles peer_of journal reports height participants crashes holds reached key event a b us vs u v =
     MatchOption (told_by key event) (Surrounds peer_of crashes event a b us vs u v) (λ t. Tells peer_of journal reports height participants crashes holds reached t.0 t.1 t.2 a b us vs u v)
 

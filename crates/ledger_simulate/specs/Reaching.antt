@@ -7,11 +7,15 @@ use Rattle.simulate_parts.specs.declared.engine.StateView.{StateView}
 use Rattle.simulate_parts.specs.declared.tracker.FinalizationUpdate.{FinalizationUpdate}
 use Rattle.ledger_simulate.specs.declared.reports.Reached.{Reached}
 
--- the exit condition answers true: the one that is set, or else that enough validators have finalized the
--- required view
+-- the exit condition answers this: the one that is set, or else whether enough validators have finalized the required
+-- view
+abbrev pub ExitIs : {C : Type 0} → (C → TrackerView → List StateView → ℕ → Result Bool (List ℕ)) → Option C → ℕ → ℕ → TrackerView → List StateView → Bool → Type 0
+ExitIs verdict condition required target tracker states met =
+    MatchOption condition (reached_by_all tracker target required ≡ met) (λ c. verdict c tracker states target ≡ Ok met)
+
+-- the exit condition answers true
 abbrev pub ExitMet : {C : Type 0} → (C → TrackerView → List StateView → ℕ → Result Bool (List ℕ)) → Option C → ℕ → ℕ → TrackerView → List StateView → Type 0
-ExitMet verdict condition required target tracker states =
-    MatchOption condition (reached_by_all tracker target required ≡ true) (λ c. verdict c tracker states target ≡ Ok true)
+ExitMet verdict condition required target tracker states = ExitIs verdict condition required target tracker states true
 
 -- the exit condition answered true after a first part of these reports
 pub record IsReached {C : Type 0} (verdict : C → TrackerView → List StateView → ℕ → Result Bool (List ℕ)) (condition : Option C) (required target : ℕ) (updates : List FinalizationUpdate) (reached : Reached) : Type 0 where

@@ -14,7 +14,7 @@ use Rattle.ledger_simulate.specs.Exercise.{unexercised_from}
 use Rattle.ledger_simulate.specs.Handling.{Grows, Handles, Seated}
 use Rattle.ledger_simulate.specs.Plans.{target_count}
 use Rattle.ledger_simulate.specs.Queue.{AgendaView, NumberedBelow, QueueView, empty_agenda, key_cmp, queued_all}
-use Rattle.ledger_simulate.specs.Reaching.{ExitMet}
+use Rattle.ledger_simulate.specs.Reaching.{ExitIs, ExitMet}
 use Rattle.ledger_simulate.specs.Results.{ResultView}
 use Rattle.simulate_parts.specs.declared.tracker.FinalizationUpdate.{FinalizationUpdate}
 use Rattle.ledger_simulate.specs.declared.event.Event.{Event}
@@ -25,6 +25,12 @@ use Rattle.ledger_simulate.specs.declared.world.World.{World}
 -- each check of the states that is asked at a report answers Ok on those of the engines that run
 abbrev pub Sound : {F D E S : Type 0} → (F → List StateView → Option (List ℕ)) → List F → (S → ℕ) → (S → List ℕ) → List (Peer × Seat D E S) → Type 0
 Sound complaint checks height shown seats = All (λ p. complaint p (active_views height shown seats) ≡ None) checks
+
+-- what was found after these reports, where the exit condition answered this: each check of the states answers Ok, and
+-- the exit condition answers so, for as many participants as count then
+pub record Finds {F C D E S : Type 0} (complaint : F → List StateView → Option (List ℕ)) (checks : List F) (height : S → ℕ) (shown : S → List ℕ) (verdict : C → TrackerView → List StateView → ℕ → Result Bool (List ℕ)) (condition : Option C) (required : ℕ) (participants : List Peer) (crashes : List Crash) (before more : List FinalizationUpdate) (met : Bool) (w : World D E S) : Type 0 where
+  pub sound : Sound complaint checks height shown w.seats.entries
+  pub answers : ExitIs verdict condition required (target_count participants crashes w.exercise.delayed_started) (tracker_of (before ++ more)) (active_views height shown w.seats.entries) met
 
 -- a list that has grown at its end alone
 pub record Extends {X : Type 0} (before after : List X) : Type 0 where
@@ -42,7 +48,7 @@ pub record Advances (entry : (ℕ × ℕ) × Event) (made : List (ℕ × Event))
 
 -- one event was handled, and the run goes on: the event left the queue, those that were made are queued, and
 -- the reports and the world are what the handling left
-pub record Proceeds {D E S : Type 0} (peer_of : E → Peer) (journal : Option (E → List (StepEvent × StepOut))) (reports : Option (FinalizationUpdate → Bool)) (height : S → ℕ) (participants : List Peer) (crashes : List Crash) (holds : List (Peer × Seat D E S) → Type 0) (before after : QueueView) (us vs : List FinalizationUpdate) (u v : World D E S) : Type 0 where
+pub record Proceeds {D E S : Type 0} (peer_of : E → Peer) (journal : Option (E → List (StepEvent × StepOut))) (reports : Option (FinalizationUpdate → Bool)) (height : S → ℕ) (participants : List Peer) (crashes : List Crash) (holds : List FinalizationUpdate → Bool → World D E S → Type 0) (before after : QueueView) (us vs : List FinalizationUpdate) (u v : World D E S) : Type 0 where
   pub entry : (ℕ × ℕ) × Event
   pub agenda : AgendaView
   pub advances : Advances entry agenda.events before after

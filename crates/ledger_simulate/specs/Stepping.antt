@@ -3,6 +3,8 @@ use Rattle.std.specs.Prelude.{◌≡◌, ◌<◌, ◌+◌, ℕ, zero, suc, All, 
 use Rattle.std.specs.Option.{option_map_or}
 use Rattle.rand_core.specs.Pcg32Seed.{pcg32_seed}
 use Rattle.rand_pcg.specs.Pcg.{pcg32_of_seed}
+use Rattle.simulate_parts.specs.Engine.{Passes}
+use Rattle.simulate_parts.specs.Seats.{active_views}
 use Rattle.simulate_parts.specs.Tracker.{tracker_of}
 use Rattle.simulate_parts.specs.TrackerView.{TrackerView}
 use Rattle.simulate_parts.specs.declared.engine.StateView.{StateView}
@@ -11,18 +13,19 @@ use Rattle.simulate_parts.specs.declared.engine.StepOut.{StepOut}
 use Rattle.simulate_parts.specs.declared.link.SimLink.{SimLink}
 use Rattle.simulate_parts.specs.declared.peer.Peer.{Peer}
 use Rattle.simulate_parts.specs.declared.schedule.Crash.{Crash}
-use Rattle.simulate_parts.specs.declared.seats.Seat.{Seat}
 use Rattle.simulate_parts.specs.declared.tracker.FinalizationUpdate.{FinalizationUpdate}
 use Rattle.ledger_simulate.specs.Answering.{Answered, Asks, Ends, MissesAt, ReportsThen, SeesAfter, SkipsAfter}
 use Rattle.ledger_simulate.specs.Causes.{Comes}
 use Rattle.ledger_simulate.specs.Delays.{started_after, started_where}
 use Rattle.ledger_simulate.specs.Failures.{no_tally, tally_of}
-use Rattle.ledger_simulate.specs.Handling.{Grows, Seated, told_first}
+use Rattle.ledger_simulate.specs.Handling.{Grows, Seated, polls_first, told_first}
 use Rattle.ledger_simulate.specs.Links.{changed_links, common_link}
 use Rattle.ledger_simulate.specs.Opening.{opening}
+use Rattle.ledger_simulate.specs.Plans.{target_count}
 use Rattle.ledger_simulate.specs.Queue.{QueueView, empty_agenda, empty_queue, first_key, queued_all}
+use Rattle.ledger_simulate.specs.Reaching.{ExitIs}
 use Rattle.ledger_simulate.specs.Results.{EndedView, ResultView, tally_shown}
-use Rattle.ledger_simulate.specs.Runs.{Extends, Proceeds, Sound, Succeeds}
+use Rattle.ledger_simulate.specs.Runs.{Finds, Proceeds, Succeeds}
 use Rattle.ledger_simulate.specs.Stops.{early_fault, is_late}
 use Rattle.ledger_simulate.specs.declared.fault.PlanFault.{PlanFault}
 use Rattle.ledger_simulate.specs.declared.simulation.SimEnd.{SimEnd}
@@ -69,9 +72,9 @@ pub record Course (D E S : Type 0) : Type 0 where
 abbrev pub course_of : {D E S I J K : Type 0} {P : I → Type 0} {Q : J → Type 0} {R : K → Type 0} → Simulation D E S I J K P Q R → Course D E S
 course_of s = record { seed = s.seed; handled = s.handled; queue = s.queue; updates = s.watch; world = s.world }
 
--- each check of the states that the plan has at reports answers Ok on those of the engines that run
-abbrev pub Held : {D E S F P C : Type 0} → Meaning D E S F P C → List (Peer × Seat D E S) → Type 0
-Held m = Sound m.complaint m.checks m.height m.shown
+-- what was found in this world after these reports more: the checks answered Ok, and the exit condition this
+abbrev pub Found : {D E S F P C : Type 0} → Meaning D E S F P C → List FinalizationUpdate → List FinalizationUpdate → Bool → World D E S → Type 0
+Found m before = Finds m.complaint m.checks m.height m.shown m.verdict m.condition m.required m.participants m.crashes before
 
 -- why the plan lets no event be handled here
 abbrev pub early_of : {D E S F P C : Type 0} → Meaning D E S F P C → Course D E S → Option PlanFault
@@ -92,11 +95,12 @@ pub record Opens {D E S F P C : Type 0} (m : Meaning D E S F P C) (seed : ℕ) (
   pub channels : IfSome m.channels (λ told. s.world.rules.channels.items ≡ told)
   pub seated : Seated m.peer_of s.queue.next s.world.seats.entries
 
--- one event was handled, and the run goes on
+-- one event was handled, and the run goes on: the exit condition answered false at each report, and at a poll
 pub record GoesOn {D E S F P C : Type 0} (m : Meaning D E S F P C) (s t : Course D E S) : Type 0 where
   pub due : early_of m s ≡ None
   pub below : s.handled < m.max_events
-  pub proceeds : Proceeds m.peer_of m.journal m.reports m.height m.participants m.crashes (Held m) s.queue t.queue s.updates t.updates s.world t.world
+  pub proceeds : Proceeds m.peer_of m.journal m.reports m.height m.participants m.crashes (Found m s.updates) s.queue t.queue s.updates t.updates s.world t.world
+  pub unmet : IsTrue (polls_first s.queue) → ExitIs m.verdict m.condition m.required (target_count m.participants m.crashes s.world.exercise.delayed_started) (tracker_of s.updates) (active_views m.height m.shown s.world.seats.entries) false
   pub handled : t.handled ≡ s.handled + 1
   pub seed : t.seed ≡ s.seed
   pub started : t.world.exercise.delayed_started ≡ started_after m.participants m.crashes s.updates s.world.exercise.delayed_started (drop (length s.updates) t.updates)
@@ -104,7 +108,7 @@ pub record GoesOn {D E S F P C : Type 0} (m : Meaning D E S F P C) (s t : Course
 -- the exit condition was met as the first event was handled, on these states, after these reports more
 abbrev pub MeetsEnd : {D E S F P C : Type 0} → Meaning D E S F P C → Course D E S → List FinalizationUpdate → List StateView → Type 0
 MeetsEnd m s =
-    Ends m.peer_of m.journal m.reports m.height m.shown (Held m) m.verdict m.condition m.required m.participants m.crashes s.queue s.updates s.world
+    Ends m.peer_of m.journal m.reports m.height m.shown (Found m s.updates) m.verdict m.condition m.required m.participants m.crashes s.queue s.updates s.world
 
 -- one event was handled, and the run ended with this result
 pub record Finishes {D E S F P C : Type 0} (m : Meaning D E S F P C) (s : Course D E S) (r : ResultView) : Type 0 where
@@ -131,12 +135,12 @@ pub record FailsAt {D E S F P C : Type 0} (m : Meaning D E S F P C) (s : Course 
   pub handled : e.handled ≡ s.handled + 1
   pub comes : Comes
       (ReportsThen m.peer_of m.journal m.reports (told_first s.queue) (empty_agenda s.queue.next) s.world)
-      (SkipsAfter m.peer_of m.journal m.reports m.height m.participants m.crashes (Held m) (told_first s.queue) (empty_agenda s.queue.next) s.world)
-      (MissesAt m.peer_of m.journal m.reports m.height m.shown (Held m) m.verdict m.condition m.required m.participants m.crashes s.queue s.updates s.world)
+      (SkipsAfter m.peer_of m.journal m.reports m.height m.participants m.crashes (Found m s.updates) (told_first s.queue) (empty_agenda s.queue.next) s.world)
+      (MissesAt m.peer_of m.journal m.reports m.height m.shown (Found m s.updates) m.verdict m.condition m.required m.participants m.crashes s.queue s.updates s.world)
       s.updates e.fault
   pub answered : Answered m.check_name m.complaint m.property_name m.objection m.condition_name m.verdict m.checks m.properties m.condition
-      (SeesAfter m.peer_of m.journal m.reports m.height m.shown m.participants m.crashes (Held m) (told_first s.queue) (empty_agenda s.queue.next) s.world)
-      (Asks m.peer_of m.journal m.reports m.height m.shown m.participants m.crashes (Held m) (told_first s.queue) s.updates (empty_agenda s.queue.next) s.world)
+      (SeesAfter m.peer_of m.journal m.reports m.height m.shown m.participants m.crashes (Found m s.updates) (told_first s.queue) (empty_agenda s.queue.next) s.world)
+      (Asks m.peer_of m.journal m.reports m.height m.shown m.participants m.crashes (Found m s.updates) (told_first s.queue) (polls_first s.queue) s.updates (empty_agenda s.queue.next) s.world)
       (MeetsEnd m s) s.updates e.fault
 
 -- the run ended with this fault: before an event was handled, or for what the first one brought
@@ -160,9 +164,10 @@ pub record Steps {D E S F P C : Type 0} (m : Meaning D E S F P C) (seed : ℕ) (
   pub goes : Goes m count first last
   pub end : ends last
 
--- the answer of a run is what stepping a new one to its end gives, want of memory aside
+-- the answer of a run is what stepping a new one to its end gives, want of memory aside; each report of a result passes
+-- the test of the engines, where one is told
 abbrev pub RunsTo : {D E S F P C : Type 0} → Meaning D E S F P C → ℕ → Result ResultView SimEnd → Type 0
-RunsTo m seed (Ok r) = Steps m seed (λ s. Finishes m s r)
+RunsTo m seed (Ok r) = Steps m seed (λ s. Finishes m s r) × All (Passes m.reports) r.updates
 RunsTo m seed (Err (Fault e)) = Steps m seed (λ s. Fails m s e)
 RunsTo m seed (Err OutOfMemory) = Unit {0}
 

@@ -3,6 +3,7 @@ ghost use Rattle.std.specs.Prelude.{◌≡◌, All, IfErr, IfOk, IsTrue, MatchOp
 ghost use Rattle.simulate_parts.specs.Checks.{reached_by_all};
 ghost use Rattle.ledger_simulate.specs.Answering.{IsComplaint, IsFailure, IsObjection};
 ghost use Rattle.ledger_simulate.specs.Causes.{stops_asked};
+ghost use Rattle.ledger_simulate.specs.Reaching.{ExitIs};
 ghost use Rattle.ledger_simulate.specs.Stops.{IsExitFault, IsFinalizationFault, IsPropertyFault, stops_late};
 
 use crate::fault::{PlanFault, Stop};
@@ -137,7 +138,7 @@ pub fn ask_exit<D: EngineDefinition>(
     states: &[StateView],
     target_count: usize,
 ) -> Result<bool, Stop>
-    ensures ok { IfOk result (λ reached. MatchOption plan.now.exit_condition (reached ≡ reached_by_all tracker.now target_count plan.now.required_finalizations) (λ c. exit_verdict c tracker.now states.now target_count ≡ Ok reached)) }
+    ensures ok { IfOk result (ExitIs (λ c. exit_verdict c) plan.now.exit_condition plan.now.required_finalizations target_count tracker.now states.now) }
     ensures fails { IfErr result (IsFailure (λ c. exit_name c) (λ c. exit_verdict c) plan.now.exit_condition tracker.now states.now target_count) }
     ensures asked { IfErr result (λ s. IsTrue (stops_asked s)) }
     ensures late { IfErr result (λ s. IsTrue (stops_late s)) }

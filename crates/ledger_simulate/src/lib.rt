@@ -24,6 +24,7 @@ mod plan;
 mod queue;
 mod reports;
 mod run;
+mod setting;
 mod simulation;
 mod spelling;
 #[cfg(test)]

@@ -1,5 +1,5 @@
 //! What the reports of a step set off.
-ghost use Rattle.std.specs.Prelude.{◌≡◌, ◌++◌, ◌∷◌, ◌||◌, [], IfErr, IfOk, IfSome, IsTrue, MatchOption, None, Some, OnOk, length};
+ghost use Rattle.std.specs.Prelude.{◌≡◌, ◌++◌, ◌∷◌, ◌||◌, [], IfErr, IfOk, IfSome, IsTrue, MatchOption, None, Some, OnOk, is_some, length};
 ghost use Rattle.simulate_parts.specs.Engine.{updates_of};
 ghost use Rattle.simulate_parts.specs.Seats.{active_views};
 ghost use Rattle.simulate_parts.specs.Tracker.{tracker_of};
@@ -9,8 +9,8 @@ ghost use Rattle.ledger_simulate.specs.Delays.{started_by, starts, target_at};
 ghost use Rattle.ledger_simulate.specs.Failures.{first_passed, standing_of, views_checked};
 ghost use Rattle.ledger_simulate.specs.Handling.{Disturbs, Strikes, Struck, striking};
 ghost use Rattle.ledger_simulate.specs.Plans.{target_count};
-ghost use Rattle.ledger_simulate.specs.Reaching.{IsReached};
-ghost use Rattle.ledger_simulate.specs.Runs.{Sound};
+ghost use Rattle.ledger_simulate.specs.Reaching.{ExitIs, IsReached};
+ghost use Rattle.ledger_simulate.specs.Runs.{Finds, Sound};
 ghost use Rattle.ledger_simulate.specs.Stops.{stops_late};
 
 use crate::agenda::Agenda;
@@ -63,6 +63,7 @@ pub fn ask<D: EngineDefinition>(
     states: Vec<StateView>,
 ) -> Result<Option<Reached>, Stop>
     ensures reached { IfOk result (λ o. IfSome o (λ r. IsReached (λ c. exit_verdict c) plan.now.exit_condition plan.now.required_finalizations (target_count plan.now.participants plan.now.crashes world.now.exercise.delayed_started) watch.now r)) }
+    ensures answers { IfOk result (λ o. ExitIs (λ c. exit_verdict c) plan.now.exit_condition plan.now.required_finalizations (target_count plan.now.participants plan.now.crashes world.now.exercise.delayed_started) (tracker_of watch.now) states.items (is_some o)) }
     ensures count { IfOk result (λ o. IfSome o (λ r. r.count ≡ length watch.now)) }
     ensures states { IfOk result (λ o. IfSome o (λ r. r.states ≡ states)) }
     ensures asked { IfErr result (λ s. IsTrue (stops_asked s)) }
@@ -100,7 +101,7 @@ fn take_report<D: EngineDefinition>(
     update: FinalizationUpdate,
 ) -> Result<Option<Reached>, Stop>
     ensures disturbs { OnOk result (Disturbs (D.peer_of plan.now.engine) agenda.old agenda.new world.old world.new) }
-    ensures strikes { OnOk result (Strikes (D.peer_of plan.now.engine) D.State.height_of plan.now.participants plan.now.crashes (Sound (λ p. finalization_complaint p) plan.now.finalization_property D.State.height_of D.State.bytes_of) agenda.old agenda.new world.old world.new) }
+    ensures strikes { IfOk result (λ o. Strikes (D.peer_of plan.now.engine) D.State.height_of plan.now.participants plan.now.crashes (Finds (λ p. finalization_complaint p) plan.now.finalization_property D.State.height_of D.State.bytes_of (λ c. exit_verdict c) plan.now.exit_condition plan.now.required_finalizations plan.now.participants plan.now.crashes watch.old (update ∷ []) (is_some o)) agenda.old agenda.new world.old world.new) }
     ensures updates { OnOk result (watch.new ≡ watch.old ++ update ∷ []) }
     ensures reached { IfOk result (λ o. IfSome o (λ r. IsReached (λ c. exit_verdict c) plan.now.exit_condition plan.now.required_finalizations (target_count plan.now.participants plan.now.crashes world.new.exercise.delayed_started) watch.new r)) }
     ensures started { IfOk result (λ o. o ≡ None → world.new.exercise.delayed_started ≡ (world.old.exercise.delayed_started || starts plan.now.participants plan.now.crashes (tracker_of watch.new))) }
@@ -158,6 +159,7 @@ fn check_and_ask<D: EngineDefinition>(
     watch: &Watch,
 ) -> Result<Option<Reached>, Stop>
     ensures reached { IfOk result (λ o. IfSome o (λ r. IsReached (λ c. exit_verdict c) plan.now.exit_condition plan.now.required_finalizations (target_count plan.now.participants plan.now.crashes world.now.exercise.delayed_started) watch.now r)) }
+    ensures answers { IfOk result (λ o. ExitIs (λ c. exit_verdict c) plan.now.exit_condition plan.now.required_finalizations (target_count plan.now.participants plan.now.crashes world.now.exercise.delayed_started) (tracker_of watch.now) (active_views D.State.height_of D.State.bytes_of world.now.seats.entries) (is_some o)) }
     ensures count { IfOk result (λ o. IfSome o (λ r. r.count ≡ length watch.now)) }
     ensures sound { OnOk result (Sound (λ p. finalization_complaint p) plan.now.finalization_property D.State.height_of D.State.bytes_of world.now.seats.entries) }
     ensures states { IfOk result (λ o. IfSome o (λ r. r.states.items ≡ active_views D.State.height_of D.State.bytes_of world.now.seats.entries)) }
@@ -206,14 +208,14 @@ fn next_report<D: EngineDefinition>(
     requires reached { IfSome reached (λ r. IsReached (λ c. exit_verdict c) plan.now.exit_condition plan.now.required_finalizations (target_count plan.now.participants plan.now.crashes world.old.exercise.delayed_started) watch.old r) }
     requires sound { IfSome reached (λ r. Sound (λ p. finalization_complaint p) plan.now.finalization_property D.State.height_of D.State.bytes_of world.old.seats.entries) }
     ensures disturbs { OnOk result (Disturbs (D.peer_of plan.now.engine) agenda.old agenda.new world.old world.new) }
-    ensures strikes { OnOk result (MatchOption reached (Strikes (D.peer_of plan.now.engine) D.State.height_of plan.now.participants plan.now.crashes (Sound (λ p. finalization_complaint p) plan.now.finalization_property D.State.height_of D.State.bytes_of) agenda.old agenda.new world.old world.new) (λ q. (agenda.new ≡ agenda.old) × (world.new ≡ world.old))) }
+    ensures strikes { IfOk result (λ o. MatchOption reached (Strikes (D.peer_of plan.now.engine) D.State.height_of plan.now.participants plan.now.crashes (Finds (λ p. finalization_complaint p) plan.now.finalization_property D.State.height_of D.State.bytes_of (λ c. exit_verdict c) plan.now.exit_condition plan.now.required_finalizations plan.now.participants plan.now.crashes watch.old (update ∷ []) (is_some o)) agenda.old agenda.new world.old world.new) (λ q. (agenda.new ≡ agenda.old) × (world.new ≡ world.old))) }
     ensures updates { OnOk result (watch.new ≡ watch.old ++ update ∷ []) }
     ensures reached { IfOk result (λ o. IfSome o (λ r. IsReached (λ c. exit_verdict c) plan.now.exit_condition plan.now.required_finalizations (target_count plan.now.participants plan.now.crashes world.new.exercise.delayed_started) watch.new r)) }
     ensures started { IfOk result (λ o. o ≡ None → (reached ≡ None) × (world.new.exercise.delayed_started ≡ (world.old.exercise.delayed_started || starts plan.now.participants plan.now.crashes (tracker_of watch.new)))) }
     ensures met { IfOk result (λ o. IfSome o (λ r. (world.new.exercise.delayed_started ≡ world.old.exercise.delayed_started) × MatchOption reached (r.count ≡ length watch.new) (λ q. r.count ≡ q.count))) }
     ensures sound { IfOk result (λ o. IfSome o (λ r. Sound (λ p. finalization_complaint p) plan.now.finalization_property D.State.height_of D.State.bytes_of world.new.seats.entries)) }
     ensures states { IfOk result (λ o. IfSome o (λ r. MatchOption reached (r.states.items ≡ views_checked D.State.height_of D.State.bytes_of plan.now.crashes world.old) (λ q. r.states.items ≡ q.states.items))) }
-    ensures comes { IfErr result (StopComes (λ more u. (more ≡ []) × (u ≡ update)) (λ h. first_passed D.State.height_of 0 plan.now.crashes (standing_of world.old) ≡ Some h) watch.old) }
+    ensures comes { IfErr result (StopComes (λ more u. (more ≡ []) × (u ≡ update)) (λ h. (reached ≡ None) × (first_passed D.State.height_of 0 plan.now.crashes (standing_of world.old) ≡ Some h)) watch.old) }
     ensures answered { IfErr result (StopAnswered (λ p. finalization_name p) (λ p. finalization_complaint p) (λ p. property_name p) (λ p. property_complaint p) (λ c. exit_name c) (λ c. exit_verdict c) plan.now.finalization_property plan.now.property plan.now.exit_condition (λ more states. (reached ≡ None) × (more ≡ update ∷ []) × (states ≡ views_checked D.State.height_of D.State.bytes_of plan.now.crashes world.old)) (λ more states target. (reached ≡ None) × (more ≡ update ∷ []) × (states ≡ views_checked D.State.height_of D.State.bytes_of plan.now.crashes world.old) × (target ≡ target_count plan.now.participants plan.now.crashes world.old.exercise.delayed_started)) (λ more states. ⊥) watch.old) }
     ensures late { IfErr result (λ s. IsTrue (stops_late s)) }
 {
@@ -236,13 +238,13 @@ pub fn take_reports<D: EngineDefinition>(
     updates: Vec<FinalizationUpdate>,
 ) -> Result<Option<Reached>, Stop>
     ensures disturbs { OnOk result (Disturbs (D.peer_of plan.now.engine) agenda.old agenda.new world.old world.new) }
-    ensures struck { IfOk result (λ o. Struck (D.peer_of plan.now.engine) D.State.height_of plan.now.participants plan.now.crashes (Sound (λ p. finalization_complaint p) plan.now.finalization_property D.State.height_of D.State.bytes_of) (striking watch.old updates.items o) agenda.old agenda.new world.old world.new) }
+    ensures struck { IfOk result (λ o. Struck (D.peer_of plan.now.engine) D.State.height_of plan.now.participants plan.now.crashes (Finds (λ p. finalization_complaint p) plan.now.finalization_property D.State.height_of D.State.bytes_of (λ c. exit_verdict c) plan.now.exit_condition plan.now.required_finalizations plan.now.participants plan.now.crashes watch.old) updates.items (is_some o) (striking watch.old updates.items o) agenda.old agenda.new world.old world.new) }
     ensures updates { OnOk result (watch.new ≡ watch.old ++ updates.items) }
     ensures reached { IfOk result (λ o. IfSome o (λ r. IsReached (λ c. exit_verdict c) plan.now.exit_condition plan.now.required_finalizations (target_count plan.now.participants plan.now.crashes world.new.exercise.delayed_started) watch.new r)) }
     ensures started { IfOk result (λ o. world.new.exercise.delayed_started ≡ started_by plan.now.participants plan.now.crashes watch.old world.old.exercise.delayed_started updates.items o) }
-    ensures seen { IfOk result (λ o. IfSome o (MetOn (Sees (D.peer_of plan.now.engine) D.State.height_of D.State.bytes_of plan.now.participants plan.now.crashes (Sound (λ p. finalization_complaint p) plan.now.finalization_property D.State.height_of D.State.bytes_of) agenda.old world.old updates.items) watch.old)) }
-    ensures comes { IfErr result (StopComes (λ more u. (rest : _) × (updates.items ≡ more ++ u ∷ rest)) (SkipsAmong (D.peer_of plan.now.engine) D.State.height_of plan.now.participants plan.now.crashes (Sound (λ p. finalization_complaint p) plan.now.finalization_property D.State.height_of D.State.bytes_of) (length updates.items) agenda.old world.old) watch.old) }
-    ensures answered { IfErr result (StopAnswered (λ p. finalization_name p) (λ p. finalization_complaint p) (λ p. property_name p) (λ p. property_complaint p) (λ c. exit_name c) (λ c. exit_verdict c) plan.now.finalization_property plan.now.property plan.now.exit_condition (Sees (D.peer_of plan.now.engine) D.State.height_of D.State.bytes_of plan.now.participants plan.now.crashes (Sound (λ p. finalization_complaint p) plan.now.finalization_property D.State.height_of D.State.bytes_of) agenda.old world.old updates.items) (λ more states target. Sees (D.peer_of plan.now.engine) D.State.height_of D.State.bytes_of plan.now.participants plan.now.crashes (Sound (λ p. finalization_complaint p) plan.now.finalization_property D.State.height_of D.State.bytes_of) agenda.old world.old updates.items more states × (target ≡ target_at plan.now.participants plan.now.crashes watch.old world.old.exercise.delayed_started more)) (λ more states. ⊥) watch.old) }
+    ensures seen { IfOk result (λ o. IfSome o (MetOn (Sees (D.peer_of plan.now.engine) D.State.height_of D.State.bytes_of plan.now.participants plan.now.crashes (Finds (λ p. finalization_complaint p) plan.now.finalization_property D.State.height_of D.State.bytes_of (λ c. exit_verdict c) plan.now.exit_condition plan.now.required_finalizations plan.now.participants plan.now.crashes watch.old) agenda.old world.old updates.items) watch.old)) }
+    ensures comes { IfErr result (StopComes (λ more u. (rest : _) × (updates.items ≡ more ++ u ∷ rest)) (SkipsAmong (D.peer_of plan.now.engine) D.State.height_of plan.now.participants plan.now.crashes (Finds (λ p. finalization_complaint p) plan.now.finalization_property D.State.height_of D.State.bytes_of (λ c. exit_verdict c) plan.now.exit_condition plan.now.required_finalizations plan.now.participants plan.now.crashes watch.old) updates.items agenda.old world.old) watch.old) }
+    ensures answered { IfErr result (StopAnswered (λ p. finalization_name p) (λ p. finalization_complaint p) (λ p. property_name p) (λ p. property_complaint p) (λ c. exit_name c) (λ c. exit_verdict c) plan.now.finalization_property plan.now.property plan.now.exit_condition (Sees (D.peer_of plan.now.engine) D.State.height_of D.State.bytes_of plan.now.participants plan.now.crashes (Finds (λ p. finalization_complaint p) plan.now.finalization_property D.State.height_of D.State.bytes_of (λ c. exit_verdict c) plan.now.exit_condition plan.now.required_finalizations plan.now.participants plan.now.crashes watch.old) agenda.old world.old updates.items) (λ more states target. Sees (D.peer_of plan.now.engine) D.State.height_of D.State.bytes_of plan.now.participants plan.now.crashes (Finds (λ p. finalization_complaint p) plan.now.finalization_property D.State.height_of D.State.bytes_of (λ c. exit_verdict c) plan.now.exit_condition plan.now.required_finalizations plan.now.participants plan.now.crashes watch.old) agenda.old world.old updates.items more states × (target ≡ target_at plan.now.participants plan.now.crashes watch.old world.old.exercise.delayed_started more)) (λ more states. ⊥) watch.old) }
     ensures late { IfErr result (λ s. IsTrue (stops_late s)) }
 {
     let mut reached = None;

@@ -1,7 +1,9 @@
 use Rattle.ledger_simulate.proofs.Answering.{if_answered_fails, answered_complains}
-use Rattle.std.proofs.Common.{◌≡◌, refl, [], ap, ◌∙◌}
+use Rattle.std.proofs.Common.{◌≡◌, refl, [], ap, ◌∙◌, IfOk, is_some, subst}
 use Rattle.ledger_simulate.specs.Plans.{target_count}
 use Rattle.simulate_parts.specs.Seats.{active_views}
+use Rattle.simulate_parts.specs.Tracker.{tracker_of}
+use Rattle.ledger_simulate.specs.Reaching.{ExitIs}
 use Rattle.ledger_simulate.proofs.Delaying.{if_ok_some_map}
 use Rattle.ledger_simulate.proofs.reports.check_and_ask.Goals as goal
 
@@ -17,3 +19,7 @@ returns-in-Err-clause-answered g c =
 
 pub returns-in-Ok-clause-states : goal.returns-in-Ok-clause-states
 returns-in-Ok-clause-states g c = if_ok_some_map c.ask.result (λ r same. ap (λ v. v.items) same ∙ c.in-Ok.ensures.views) c.ask.ensures.states
+
+pub returns-in-Ok-clause-answers : goal.returns-in-Ok-clause-answers
+returns-in-Ok-clause-answers g c =
+    subst (λ vs. IfOk c.ask.result (λ o. ExitIs (λ x. (goal.ExitCondition-dyn g (x.vtable, x.value)).exit_verdict x.value) c.args.plan.now.exit_condition c.args.plan.now.required_finalizations (target_count c.args.plan.now.participants c.args.plan.now.crashes c.args.world.now.exercise.delayed_started) (tracker_of c.args.watch.now) vs (is_some o))) c.in-Ok.ensures.views c.ask.ensures.answers

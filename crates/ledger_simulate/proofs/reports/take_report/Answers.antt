@@ -1,9 +1,11 @@
-use Rattle.std.proofs.Common.{◌≡◌, ◌∷◌, [], ◌++◌, ◌∙◌, ap, refl, sym}
+use Rattle.std.proofs.Common.{◌≡◌, ◌∷◌, [], ◌++◌, ◌∙◌, ap, refl, sym, subst, is_some, true, false}
 use Rattle.ledger_simulate.specs.Plans.{target_count}
 use Rattle.ledger_simulate.proofs.Causing.{stop_asked, stop_forks, stop_skips}
 use Rattle.ledger_simulate.proofs.Stirring.{disturbs_none, disturbs_then}
 use Rattle.ledger_simulate.proofs.Answering.{stop_answered_since}
 use Rattle.simulate_parts.specs.Seats.{active_views}
+use Rattle.simulate_parts.specs.Tracker.{tracker_of}
+use Rattle.ledger_simulate.specs.Reaching.{ExitIs}
 use Rattle.std.proofs.lemmas.List.{append-nil}
 use Rattle.ledger_simulate.proofs.Delaying.{launches_none}
 use Rattle.ledger_simulate.proofs.Delaying.{some_is}
@@ -21,7 +23,12 @@ returns-in-Ok-start_delayed-clause-strikes g c = record {
   unpassed = c.in-Ok-enter_windows.ensures.unpassed;
   enters = c.in-Ok-enter_windows.ensures.disturbs;
   entered = c.in-Ok-enter_windows.ensures.standing;
-  held = c.in-Ok-None.ensures.sound;
+  held = record {
+    sound = c.in-Ok-None.ensures.sound;
+    answers =
+        subst (λ us. ExitIs (λ x. (goal.ExitCondition-dyn g (x.vtable, x.value)).exit_verdict x.value) c.args.plan.now.exit_condition c.args.plan.now.required_finalizations (target_count c.args.plan.now.participants c.args.plan.now.crashes c.enter_windows.new.self.exercise.delayed_started) (tracker_of us) (active_views g.D.State.ProcessedHeight.height_of g.D.State.ProcessedHeight.bytes_of c.enter_windows.new.self.seats.entries) false) c.in-Ok.ensures.ok
+        (subst (λ o. ExitIs (λ x. (goal.ExitCondition-dyn g (x.vtable, x.value)).exit_verdict x.value) c.args.plan.now.exit_condition c.args.plan.now.required_finalizations (target_count c.args.plan.now.participants c.args.plan.now.crashes c.enter_windows.new.self.exercise.delayed_started) (tracker_of c.observe.new.self) (active_views g.D.State.ProcessedHeight.height_of g.D.State.ProcessedHeight.bytes_of c.enter_windows.new.self.seats.entries) (is_some o)) c.in-Ok-None.field-0-is c.in-Ok-None.ensures.answers);
+  };
   disturbs = c.in-Ok-start_delayed.ensures.disturbs;
   launched = c.in-Ok-start_delayed.ensures.launches.0;
   launches = c.in-Ok-start_delayed.ensures.launches.1;
@@ -36,7 +43,12 @@ returns-in-Ok-Some-clause-strikes g c = record {
   unpassed = c.in-Ok-enter_windows.ensures.unpassed;
   enters = c.in-Ok-enter_windows.ensures.disturbs;
   entered = c.in-Ok-enter_windows.ensures.standing;
-  held = c.in-Ok-Some.ensures.sound;
+  held = record {
+    sound = c.in-Ok-Some.ensures.sound;
+    answers =
+        subst (λ us. ExitIs (λ x. (goal.ExitCondition-dyn g (x.vtable, x.value)).exit_verdict x.value) c.args.plan.now.exit_condition c.args.plan.now.required_finalizations (target_count c.args.plan.now.participants c.args.plan.now.crashes c.enter_windows.new.self.exercise.delayed_started) (tracker_of us) (active_views g.D.State.ProcessedHeight.height_of g.D.State.ProcessedHeight.bytes_of c.enter_windows.new.self.seats.entries) true) c.in-Ok.ensures.ok
+        (subst (λ o. ExitIs (λ x. (goal.ExitCondition-dyn g (x.vtable, x.value)).exit_verdict x.value) c.args.plan.now.exit_condition c.args.plan.now.required_finalizations (target_count c.args.plan.now.participants c.args.plan.now.crashes c.enter_windows.new.self.exercise.delayed_started) (tracker_of c.observe.new.self) (active_views g.D.State.ProcessedHeight.height_of g.D.State.ProcessedHeight.bytes_of c.enter_windows.new.self.seats.entries) (is_some o)) c.in-Ok-Some.field-0-is c.in-Ok-Some.ensures.answers);
+  };
   disturbs = disturbs_none (g.D.EngineDefinition.peer_of c.args.plan.now.engine) c.enter_windows.new.agenda c.enter_windows.new.self;
   launched = [];
   launches = launches_none c.args.plan.now.participants c.args.plan.now.crashes c.enter_windows.new.self.exercise.delayed_started;

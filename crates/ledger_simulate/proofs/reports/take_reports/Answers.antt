@@ -1,5 +1,5 @@
 use Rattle.std.specs.Vec.Iter.{into_iter_items}
-use Rattle.std.proofs.Common.{List, ◌≡◌, ◌++◌, ◌∷◌, [], None, ap, ◌∙◌, arith, refl, sym, subst}
+use Rattle.std.proofs.Common.{List, ◌≡◌, ◌++◌, ◌∷◌, [], None, is_some, length, ap, ◌∙◌, arith, refl, sym, subst}
 use Rattle.std.proofs.lemmas.Grind.{common_steps}
 use Rattle.std.proofs.lemmas.List.{append-nil, append_assoc}
 use Rattle.ledger_simulate.proofs.Causing.{stop_since}
@@ -10,8 +10,8 @@ use Rattle.ledger_simulate.specs.Answering.{Sees}
 use Rattle.ledger_simulate.specs.Delays.{started_by}
 use Rattle.ledger_simulate.proofs.Delaying.{some_map, started_step, target_more}
 use Rattle.ledger_simulate.specs.Handling.{Struck, striking}
-use Rattle.ledger_simulate.proofs.Turning.{met_step, struck_step, turn_within}
-use Rattle.ledger_simulate.specs.Runs.{Sound}
+use Rattle.ledger_simulate.proofs.Turning.{finds_on, met_step, strikes_on, struck_step, turn_within}
+use Rattle.ledger_simulate.specs.Runs.{Finds}
 use Rattle.simulate_parts.specs.declared.engine.StateView.{StateView}
 use Rattle.simulate_parts.specs.declared.tracker.FinalizationUpdate.{FinalizationUpdate}
 use Rattle.ledger_simulate.specs.Failures.{views_checked}
@@ -40,10 +40,14 @@ loop-update-preserved g c = record {
         c.loop-update.invariant.since.1 c.in-Ok.ensures.updates c.loop-update.invariant.since.3
         (some_map c.loop-update.reached (λ r at. at.within) c.loop-update.invariant.reached)
         c.in-Ok.ensures.started c.in-Ok.ensures.met,
-    struck_step (g.D.EngineDefinition.peer_of c.args.plan.now.engine) g.D.State.ProcessedHeight.height_of c.args.plan.now.participants c.args.plan.now.crashes (Sound (λ x. (goal.FinalizationProperty-dyn g (x.vtable, x.value)).finalization_complaint x.value) c.args.plan.now.finalization_property g.D.State.ProcessedHeight.height_of g.D.State.ProcessedHeight.bytes_of) c.args.watch.now c.loop-update.invariant.since.0 c.loop-update.watch c.next_report.new.watch c.loop-update.reached c.in-Ok.next c.in-Some.update
+    struck_step (g.D.EngineDefinition.peer_of c.args.plan.now.engine) g.D.State.ProcessedHeight.height_of c.args.plan.now.participants c.args.plan.now.crashes (Finds (λ x. (goal.FinalizationProperty-dyn g (x.vtable, x.value)).finalization_complaint x.value) c.args.plan.now.finalization_property g.D.State.ProcessedHeight.height_of g.D.State.ProcessedHeight.bytes_of (λ x. (goal.ExitCondition-dyn g (x.vtable, x.value)).exit_verdict x.value) c.args.plan.now.exit_condition c.args.plan.now.required_finalizations c.args.plan.now.participants c.args.plan.now.crashes c.args.watch.now) c.args.updates.items c.args.watch.now c.loop-update.invariant.since.0 (into_iter_items c.next.new.self) c.loop-update.watch c.next_report.new.watch c.loop-update.reached c.in-Ok.next c.in-Some.update
         c.args.agenda.now c.loop-update.agenda c.next_report.new.agenda c.args.world.now c.loop-update.world c.next_report.new.world
         c.loop-update.invariant.since.1 c.in-Ok.ensures.updates c.loop-update.invariant.since.4 (λ e. (c.in-Ok.ensures.started e).0)
-        (some_map c.in-Ok.next (λ r at. at.1) c.in-Ok.ensures.met) c.in-Ok.ensures.strikes,
+        (some_map c.in-Ok.next (λ r at. at.1) c.in-Ok.ensures.met)
+        (strikes_on (g.D.EngineDefinition.peer_of c.args.plan.now.engine) g.D.State.ProcessedHeight.height_of c.args.plan.now.participants c.args.plan.now.crashes _ _ _ _ _ _ c.loop-update.reached
+        (λ w finds. finds_on (λ x. (goal.FinalizationProperty-dyn g (x.vtable, x.value)).finalization_complaint x.value) c.args.plan.now.finalization_property g.D.State.ProcessedHeight.height_of g.D.State.ProcessedHeight.bytes_of (λ x. (goal.ExitCondition-dyn g (x.vtable, x.value)).exit_verdict x.value) c.args.plan.now.exit_condition c.args.plan.now.required_finalizations c.args.plan.now.participants c.args.plan.now.crashes c.loop-update.watch (c.in-Some.update ∷ []) c.args.watch.now c.args.updates.items c.loop-update.invariant.since.0 (into_iter_items c.next.new.self) c.in-Some.update (is_some c.in-Ok.next) w c.loop-update.invariant.since.1 refl
+        (sym c.loop-update.invariant.since.2 ∙ ap (λ us. c.loop-update.invariant.since.0 ++ us) c.in-Some.ensures.steps.0) finds)
+        c.in-Ok.ensures.strikes),
   );
   updates =
       updates_more c.loop-update.watch c.next_report.new.watch c.args.watch.now c.args.updates.items (into_iter_items c.loop-update.update-iterator) (into_iter_items c.next.new.self) c.in-Some.update
@@ -51,7 +55,7 @@ loop-update-preserved g c = record {
   reached = c.in-Ok.ensures.reached;
   sound = c.in-Ok.ensures.sound;
   seen =
-      met_step (Sees (g.D.EngineDefinition.peer_of c.args.plan.now.engine) g.D.State.ProcessedHeight.height_of g.D.State.ProcessedHeight.bytes_of c.args.plan.now.participants c.args.plan.now.crashes (Sound (λ x. (goal.FinalizationProperty-dyn g (x.vtable, x.value)).finalization_complaint x.value) c.args.plan.now.finalization_property g.D.State.ProcessedHeight.height_of g.D.State.ProcessedHeight.bytes_of) c.args.agenda.now c.args.world.now c.args.updates.items) c.args.watch.now c.loop-update.invariant.since.0 c.loop-update.watch c.next_report.new.watch c.loop-update.reached c.in-Ok.next c.in-Some.update (views_checked g.D.State.ProcessedHeight.height_of g.D.State.ProcessedHeight.bytes_of c.args.plan.now.crashes c.loop-update.world)
+      met_step (Sees (g.D.EngineDefinition.peer_of c.args.plan.now.engine) g.D.State.ProcessedHeight.height_of g.D.State.ProcessedHeight.bytes_of c.args.plan.now.participants c.args.plan.now.crashes (Finds (λ x. (goal.FinalizationProperty-dyn g (x.vtable, x.value)).finalization_complaint x.value) c.args.plan.now.finalization_property g.D.State.ProcessedHeight.height_of g.D.State.ProcessedHeight.bytes_of (λ x. (goal.ExitCondition-dyn g (x.vtable, x.value)).exit_verdict x.value) c.args.plan.now.exit_condition c.args.plan.now.required_finalizations c.args.plan.now.participants c.args.plan.now.crashes c.args.watch.now) c.args.agenda.now c.args.world.now c.args.updates.items) c.args.watch.now c.loop-update.invariant.since.0 c.loop-update.watch c.next_report.new.watch c.loop-update.reached c.in-Ok.next c.in-Some.update (views_checked g.D.State.ProcessedHeight.height_of g.D.State.ProcessedHeight.bytes_of c.args.plan.now.crashes c.loop-update.world)
       c.loop-update.invariant.since.1 c.in-Ok.ensures.updates
       (λ none. record {
         earlier = c.loop-update.invariant.since.0;
@@ -61,7 +65,7 @@ loop-update-preserved g c = record {
         upto = refl;
         made = c.loop-update.agenda;
         world = c.loop-update.world;
-        struck = subst (λ o. Struck (g.D.EngineDefinition.peer_of c.args.plan.now.engine) g.D.State.ProcessedHeight.height_of c.args.plan.now.participants c.args.plan.now.crashes (Sound (λ x. (goal.FinalizationProperty-dyn g (x.vtable, x.value)).finalization_complaint x.value) c.args.plan.now.finalization_property g.D.State.ProcessedHeight.height_of g.D.State.ProcessedHeight.bytes_of) (striking c.args.watch.now c.loop-update.invariant.since.0 o) c.args.agenda.now c.loop-update.agenda c.args.world.now c.loop-update.world) none c.loop-update.invariant.since.4;
+        struck = subst (λ o. Struck (g.D.EngineDefinition.peer_of c.args.plan.now.engine) g.D.State.ProcessedHeight.height_of c.args.plan.now.participants c.args.plan.now.crashes (Finds (λ x. (goal.FinalizationProperty-dyn g (x.vtable, x.value)).finalization_complaint x.value) c.args.plan.now.finalization_property g.D.State.ProcessedHeight.height_of g.D.State.ProcessedHeight.bytes_of (λ x. (goal.ExitCondition-dyn g (x.vtable, x.value)).exit_verdict x.value) c.args.plan.now.exit_condition c.args.plan.now.required_finalizations c.args.plan.now.participants c.args.plan.now.crashes c.args.watch.now) c.args.updates.items (is_some o) (striking c.args.watch.now c.loop-update.invariant.since.0 o) c.args.agenda.now c.loop-update.agenda c.args.world.now c.loop-update.world) none c.loop-update.invariant.since.4;
         are = refl;
       })
       c.loop-update.invariant.seen (some_map c.in-Ok.next (λ r at. at.1) c.in-Ok.ensures.met) c.in-Ok.ensures.states;
@@ -78,14 +82,14 @@ returns-in-Err-clause-comes g c =
           ∙ ap (λ us. us ++ u ∷ into_iter_items c.next.new.self) (sym (ap (λ us. done ++ us) came.0 ∙ append-nil done)),
     ))
     (λ h skips. record {
-      count = striking c.args.watch.now done c.loop-update.reached;
+      count = length done;
       within =
-          turn_within c.args.watch.now done c.loop-update.watch (into_iter_items c.loop-update.update-iterator) (into_iter_items c.next.new.self) c.args.updates.items c.in-Some.update c.loop-update.reached c.loop-update.invariant.since.1
-          (some_map c.loop-update.reached (λ r at. at.within) c.loop-update.invariant.reached) c.loop-update.invariant.since.2 c.in-Some.ensures.steps.0;
+          turn_within c.args.watch.now done c.loop-update.watch (into_iter_items c.loop-update.update-iterator) (into_iter_items c.next.new.self) c.args.updates.items c.in-Some.update None c.loop-update.invariant.since.1
+          tt c.loop-update.invariant.since.2 c.in-Some.ensures.steps.0;
       made = c.loop-update.agenda;
       world = c.loop-update.world;
-      struck = c.loop-update.invariant.since.4;
-      skips = skips;
+      struck = subst (λ o. Struck (g.D.EngineDefinition.peer_of c.args.plan.now.engine) g.D.State.ProcessedHeight.height_of c.args.plan.now.participants c.args.plan.now.crashes (Finds (λ x. (goal.FinalizationProperty-dyn g (x.vtable, x.value)).finalization_complaint x.value) c.args.plan.now.finalization_property g.D.State.ProcessedHeight.height_of g.D.State.ProcessedHeight.bytes_of (λ x. (goal.ExitCondition-dyn g (x.vtable, x.value)).exit_verdict x.value) c.args.plan.now.exit_condition c.args.plan.now.required_finalizations c.args.plan.now.participants c.args.plan.now.crashes c.args.watch.now) c.args.updates.items (is_some o) (striking c.args.watch.now done o) c.args.agenda.now c.loop-update.agenda c.args.world.now c.loop-update.world) skips.0 c.loop-update.invariant.since.4;
+      skips = skips.1;
     })
     c.in-Err.stop c.in-Err.ensures.comes
 
@@ -93,7 +97,7 @@ pub returns-in-Err-clause-answered : goal.returns-in-Err-clause-answered
 returns-in-Err-clause-answered g c =
     let done = c.loop-update.invariant.since.0 in
     let peer_of = g.D.EngineDefinition.peer_of c.args.plan.now.engine in
-    let sees : (m : List FinalizationUpdate) (v : List StateView) → c.loop-update.reached ≡ None → m ≡ c.in-Some.update ∷ [] → v ≡ views_checked g.D.State.ProcessedHeight.height_of g.D.State.ProcessedHeight.bytes_of c.args.plan.now.crashes c.loop-update.world → Sees peer_of g.D.State.ProcessedHeight.height_of g.D.State.ProcessedHeight.bytes_of c.args.plan.now.participants c.args.plan.now.crashes (Sound (λ x. (goal.FinalizationProperty-dyn g (x.vtable, x.value)).finalization_complaint x.value) c.args.plan.now.finalization_property g.D.State.ProcessedHeight.height_of g.D.State.ProcessedHeight.bytes_of) c.args.agenda.now c.args.world.now c.args.updates.items (done ++ m) v = λ m v none one views. record {
+    let sees : (m : List FinalizationUpdate) (v : List StateView) → c.loop-update.reached ≡ None → m ≡ c.in-Some.update ∷ [] → v ≡ views_checked g.D.State.ProcessedHeight.height_of g.D.State.ProcessedHeight.bytes_of c.args.plan.now.crashes c.loop-update.world → Sees peer_of g.D.State.ProcessedHeight.height_of g.D.State.ProcessedHeight.bytes_of c.args.plan.now.participants c.args.plan.now.crashes (Finds (λ x. (goal.FinalizationProperty-dyn g (x.vtable, x.value)).finalization_complaint x.value) c.args.plan.now.finalization_property g.D.State.ProcessedHeight.height_of g.D.State.ProcessedHeight.bytes_of (λ x. (goal.ExitCondition-dyn g (x.vtable, x.value)).exit_verdict x.value) c.args.plan.now.exit_condition c.args.plan.now.required_finalizations c.args.plan.now.participants c.args.plan.now.crashes c.args.watch.now) c.args.agenda.now c.args.world.now c.args.updates.items (done ++ m) v = λ m v none one views. record {
       earlier = done;
       update = c.in-Some.update;
       rest = into_iter_items c.next.new.self;
@@ -101,7 +105,7 @@ returns-in-Err-clause-answered g c =
       upto = ap (λ us. done ++ us) one;
       made = c.loop-update.agenda;
       world = c.loop-update.world;
-      struck = subst (λ o. Struck peer_of g.D.State.ProcessedHeight.height_of c.args.plan.now.participants c.args.plan.now.crashes (Sound (λ x. (goal.FinalizationProperty-dyn g (x.vtable, x.value)).finalization_complaint x.value) c.args.plan.now.finalization_property g.D.State.ProcessedHeight.height_of g.D.State.ProcessedHeight.bytes_of) (striking c.args.watch.now done o) c.args.agenda.now c.loop-update.agenda c.args.world.now c.loop-update.world) none c.loop-update.invariant.since.4;
+      struck = subst (λ o. Struck peer_of g.D.State.ProcessedHeight.height_of c.args.plan.now.participants c.args.plan.now.crashes (Finds (λ x. (goal.FinalizationProperty-dyn g (x.vtable, x.value)).finalization_complaint x.value) c.args.plan.now.finalization_property g.D.State.ProcessedHeight.height_of g.D.State.ProcessedHeight.bytes_of (λ x. (goal.ExitCondition-dyn g (x.vtable, x.value)).exit_verdict x.value) c.args.plan.now.exit_condition c.args.plan.now.required_finalizations c.args.plan.now.participants c.args.plan.now.crashes c.args.watch.now) c.args.updates.items (is_some o) (striking c.args.watch.now done o) c.args.agenda.now c.loop-update.agenda c.args.world.now c.loop-update.world) none c.loop-update.invariant.since.4;
       are = views;
     } in
     stop_answered_since (λ x. (goal.FinalizationProperty-dyn g (x.vtable, x.value)).finalization_name x.value) (λ x. (goal.FinalizationProperty-dyn g (x.vtable, x.value)).finalization_complaint x.value) (λ x. (goal.Property-dyn g (x.vtable, x.value)).property_name x.value) (λ x. (goal.Property-dyn g (x.vtable, x.value)).property_complaint x.value) (λ x. (goal.ExitCondition-dyn g (x.vtable, x.value)).exit_name x.value) (λ x. (goal.ExitCondition-dyn g (x.vtable, x.value)).exit_verdict x.value) c.args.plan.now.finalization_property c.args.plan.now.property c.args.plan.now.exit_condition _ _ (λ m v. ⊥) _ _ (λ m v. ⊥)
@@ -125,4 +129,4 @@ returns-clause-struck g c =
     let done = c.loop-update.invariant.since.0 in
     let none : into_iter_items c.loop-update.update-iterator ≡ [] = grind (arith, common_steps) in
     let whole = sym (append-nil done) ∙ ap (λ us. done ++ us) (sym none) ∙ c.loop-update.invariant.since.2 in
-    subst (λ us. Struck (g.D.EngineDefinition.peer_of c.args.plan.now.engine) g.D.State.ProcessedHeight.height_of c.args.plan.now.participants c.args.plan.now.crashes (Sound (λ x. (goal.FinalizationProperty-dyn g (x.vtable, x.value)).finalization_complaint x.value) c.args.plan.now.finalization_property g.D.State.ProcessedHeight.height_of g.D.State.ProcessedHeight.bytes_of) (striking c.args.watch.now us c.loop-update.reached) c.args.agenda.now c.loop-update.agenda c.args.world.now c.loop-update.world) whole c.loop-update.invariant.since.4
+    subst (λ us. Struck (g.D.EngineDefinition.peer_of c.args.plan.now.engine) g.D.State.ProcessedHeight.height_of c.args.plan.now.participants c.args.plan.now.crashes (Finds (λ x. (goal.FinalizationProperty-dyn g (x.vtable, x.value)).finalization_complaint x.value) c.args.plan.now.finalization_property g.D.State.ProcessedHeight.height_of g.D.State.ProcessedHeight.bytes_of (λ x. (goal.ExitCondition-dyn g (x.vtable, x.value)).exit_verdict x.value) c.args.plan.now.exit_condition c.args.plan.now.required_finalizations c.args.plan.now.participants c.args.plan.now.crashes c.args.watch.now) c.args.updates.items (is_some c.loop-update.reached) (striking c.args.watch.now us c.loop-update.reached) c.args.agenda.now c.loop-update.agenda c.args.world.now c.loop-update.world) whole c.loop-update.invariant.since.4

@@ -1,5 +1,7 @@
-use Rattle.std.proofs.Common.{◌≡◌, [], refl, ap, ◌∙◌}
+use Rattle.std.proofs.Common.{◌≡◌, [], refl, ap, ◌∙◌, IfOk, is_some, subst}
 use Rattle.simulate_parts.specs.Seats.{active_views}
+use Rattle.simulate_parts.specs.Tracker.{tracker_of}
+use Rattle.ledger_simulate.specs.Reaching.{ExitIs}
 use Rattle.ledger_simulate.specs.Plans.{target_count}
 use Rattle.ledger_simulate.specs.declared.event.Event.TheVariants.{ExitPoll}
 use Rattle.ledger_simulate.proofs.Results.{on_any}
@@ -21,3 +23,7 @@ returns-in-Ok-clause-answered g c =
 
 pub returns-in-Ok-clause-seen : goal.returns-in-Ok-clause-seen
 returns-in-Ok-clause-seen g c = if_ok_some_both c.ask.result (λ r count same. (count, ap (λ v. v.items) same ∙ c.in-Ok.ensures.views)) c.ask.ensures.count c.ask.ensures.states
+
+pub returns-in-Ok-clause-answers : goal.returns-in-Ok-clause-answers
+returns-in-Ok-clause-answers g c =
+    subst (λ vs. IfOk c.ask.result (λ o. ExitIs (λ x. (goal.ExitCondition-dyn g (x.vtable, x.value)).exit_verdict x.value) c.args.plan.now.exit_condition c.args.plan.now.required_finalizations (target_count c.args.plan.now.participants c.args.plan.now.crashes c.args.world.now.exercise.delayed_started) (tracker_of c.args.watch.now) vs (is_some o))) c.in-Ok.ensures.views c.ask.ensures.answers

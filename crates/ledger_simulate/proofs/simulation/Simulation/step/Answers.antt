@@ -11,6 +11,7 @@ returns-clause-on g c = λ next h.
         due = sym (c.early.ensures.fault ∙ ap (λ k. early_fault k c.args.self.handled c.args.self.plan.now.max_events c.args.self.plan.now.timeout) c.first.ensures) ∙ c.in-None.is;
         below = c.early.ensures.below c.in-None.is;
         proceeds = p.0;
+        unmet = c.advance.ensures.unmet next h;
         handled = p.1;
         seed = p.2;
         started = c.advance.ensures.started next h;
