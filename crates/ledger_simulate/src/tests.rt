@@ -328,7 +328,7 @@ fn ends_where_a_window_is_skipped(rt: HostRuntime) -> Result<(), OutOfMemory> {
 
 /// Ends a run once two validators have reported.
 #[derive(Drop)]
-struct TwoTracked;
+pub struct TwoTracked;
 
 impl ExitCondition for TwoTracked {
     ghost use Rattle.std.specs.Prelude.{Ok, codes, length, nat_le};
