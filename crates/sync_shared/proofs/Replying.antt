@@ -12,7 +12,7 @@ use Rattle.sync_net.specs.declared.message.Message.{Message}
 use Rattle.turn_lock.specs.declared.entry.Entry.{Entry}
 use Rattle.turn_lock.specs.declared.held.Held.{Held}
 use Rattle.turn_lock.specs.History.{Legal, calls, entry}
-use Rattle.turn_lock.specs.Passes.{PassValue, having_seen, Takes, Gives}
+use Rattle.turn_lock.specs.Passes.{Origin, PassValue, having_seen, Takes, Gives}
 use Rattle.turn_lock.proofs.Histories.{legal_snoc, calls-own}
 use Rattle.turn_lock.proofs.Turning.{gives_one, gives_none}
 use Rattle.sync_shared.specs.Calls.{grown, after_call, Answers}
@@ -20,11 +20,12 @@ use Rattle.sync_shared.specs.declared.event.Event.{Event}
 use Rattle.sync_shared.specs.declared.event.Event.TheVariants.{Request, Batch}
 use Rattle.sync_shared.specs.declared.event.EventOutcome.{EventOutcome}
 use Rattle.sync_shared.specs.declared.event.EventOutcome.TheVariants as outcomes
-use Rattle.sync_shared.specs.declared.refusal.ShareRefusal.TheVariants.{OutOfMemory}
+use Rattle.sync_shared.specs.declared.refusal.ShareRefusal.{ShareRefusal}
+use Rattle.sync_shared.specs.declared.refusal.ShareRefusal.TheVariants.{PassSpent, Log, OutOfMemory}
 use Rattle.sync_shared.specs.declared.turns.Answer.{Answer}
 use Rattle.sync_shared.specs.declared.turns.Answer.TheVariants.{Taken, Refused, Starved}
 use Rattle.sync_shared.specs.Turns.{result_of, entries, IsAnswer}
-use Rattle.sync_shared.specs.Replies.{log_after, later, Made, Missed, Served, Appends}
+use Rattle.sync_shared.specs.Replies.{log_after, later, Belongs, Made, Missed, Served, Appends}
 
 pub not_spent : (used turns : ℕ) → (used == turns) ≡ false → used ≢ turns
 not_spent used turns is = grind (arith, nat_tests)
@@ -97,3 +98,22 @@ module _ {Op : Type 0} (floor_of : Op → Option ℕ) (o : LogView Op) (p m q : 
     made (Batch ops) (outcomes.Refused fault) left a.0 (history ∙ ap (λ c. y.history.items ++ entry c (Batch ops) (outcomes.Refused fault) ∷ []) mine) is,
   )
   appends caller ops Starved left mine a history is = missed left (history ∙ append-nil y.history.items) is
+
+-- of a call by the pass p, which is q behind it
+module _ {Op : Type 0} (floor_of : Op → Option ℕ) (o : LogView Op) (from : Origin (LogView Op)) (p q : PassValue (LogView Op) (Event Op) EventOutcome) (b : Belongs from p) where
+  -- the pass is one of the same lock
+  pub served_belongs : (spelling : Op → List ℕ) (message : Message Op) (r : Result (Message Op) ShareRefusal) → Served floor_of o spelling p message q r → Belongs from q
+  served_belongs spelling message (Ok reply) s =
+      let e = s.2.pass in (ap (λ (x : PassValue (LogView Op) (Event Op) EventOutcome). x.from) e ∙ b.0, ap (λ (x : PassValue (LogView Op) (Event Op) EventOutcome). x.within) e)
+  served_belongs spelling message (Err PassSpent) s = subst (Belongs from) (sym s.1) b
+  served_belongs spelling message (Err (Log fault)) s = absurd s
+  served_belongs spelling message (Err OutOfMemory) s =
+      (ap (λ (x : PassValue (LogView Op) (Event Op) EventOutcome). x.from) s.pass ∙ b.0, ap (λ (x : PassValue (LogView Op) (Event Op) EventOutcome). x.within) s.pass)
+
+  -- the same of a batch
+  pub appended_belongs : (ops : List Op) (r : Result ℕ ShareRefusal) → Appends floor_of o p ops q r → Belongs from q
+  appended_belongs ops (Ok size) s = let e = s.3.pass in (ap (λ (x : PassValue (LogView Op) (Event Op) EventOutcome). x.from) e ∙ b.0, ap (λ (x : PassValue (LogView Op) (Event Op) EventOutcome). x.within) e)
+  appended_belongs ops (Err PassSpent) s = subst (Belongs from) (sym s.1) b
+  appended_belongs ops (Err (Log fault)) s = let e = s.2.pass in (ap (λ (x : PassValue (LogView Op) (Event Op) EventOutcome). x.from) e ∙ b.0, ap (λ (x : PassValue (LogView Op) (Event Op) EventOutcome). x.within) e)
+  appended_belongs ops (Err OutOfMemory) s =
+      (ap (λ (x : PassValue (LogView Op) (Event Op) EventOutcome). x.from) s.pass ∙ b.0, ap (λ (x : PassValue (LogView Op) (Event Op) EventOutcome). x.within) s.pass)
