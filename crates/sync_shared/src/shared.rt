@@ -87,7 +87,7 @@ impl<F: Family> SharedLog<F> {
         message: Message<F::Op>,
     ) -> Result<Message<F::Op>, ShareRefusal>
         requires { Belongs self.now.from pass.old }
-        ensures { Served F.floor_of self.now.opening F.Op.spelling pass.old message pass.new result }
+        ensures answer { Served F.floor_of self.now.opening F.Op.spelling pass.old message pass.new result }
     {
         if pass.is_spent() {
             return Err(ShareRefusal::PassSpent);
@@ -112,7 +112,7 @@ impl<F: Family> SharedLog<F> {
         ops: &[F::Op],
     ) -> Result<Location, ShareRefusal>
         requires { Belongs self.now.from pass.old }
-        ensures { Appends F.floor_of self.now.opening pass.old ops.now pass.new result }
+        ensures answer { Appends F.floor_of self.now.opening pass.old ops.now pass.new result }
     {
         if pass.is_spent() {
             return Err(ShareRefusal::PassSpent);
