@@ -1,6 +1,6 @@
 //! Worked cases of the parts.
 
-ghost use Rattle.std.specs.Prelude.{IfOk};
+ghost use Rattle.std.specs.Prelude.{◌≡◌, IfOk};
 ghost use Rattle.simulate_parts.specs.Engine.{DistinctPeers};
 
 use crate::{
@@ -216,6 +216,18 @@ impl Reporter for Counter {
     fn report(&mut self, _activity: &Activity) {
         self.0 = self.0.saturating_add(1);
     }
+}
+
+/// The least view that nobody has finalized.
+fn view_of_nobody(alloc: Global) -> u64
+    ensures { result ≡ 0 }
+{
+    ProgressTracker::default(alloc).min_view()
+}
+
+#[test]
+fn has_no_view_at_first(rt: HostRuntime) {
+    assert_eq!(rt; view_of_nobody(rt.alloc()), 0);
 }
 
 #[test]
