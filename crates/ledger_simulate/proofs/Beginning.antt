@@ -8,7 +8,7 @@ use Rattle.simulate_parts.specs.declared.peer.Peer.{Peer}
 use Rattle.simulate_parts.specs.declared.schedule.Action.{Action}
 use Rattle.simulate_parts.specs.declared.schedule.Crash.{Crash}
 use Rattle.simulate_parts.specs.declared.schedule.Crash.TheVariants.{Random, DelayRound, ProcessedHeight, Schedule}
-use Rattle.ledger_simulate.specs.Handling.{Adds, Disturbs, Seated, is_quiet, number_after}
+use Rattle.ledger_simulate.specs.Handling.{Adds, ChangesEnginesAlone, Seated, is_quiet, number_after}
 use Rattle.ledger_simulate.specs.Opening.{actions_of, first_poll, first_tick, starts}
 use Rattle.ledger_simulate.specs.Queue.{AgendaView, QueueView, empty_agenda, empty_queue, queued_all}
 use Rattle.ledger_simulate.specs.declared.event.Event.{Event}
@@ -74,12 +74,12 @@ nobody : {X : Type 0} (x : X) → ◌≡◌ {A = Option X} None (Some x) → ⊥
 nobody x e = cc
 
 -- the seats once the first engines were started
-pub seated_first : {D E S : Type 0} (peer_of : E → Peer) (a b : AgendaView) (u v : World D E S) (new : QueueView) → a ≡ empty_agenda 0 → Disturbs peer_of a b u v → u.seats.entries ≡ [] → new ≡ queued_all empty_queue 0 b.events → Seated peer_of new.next v.seats.entries
+pub seated_first : {D E S : Type 0} (peer_of : E → Peer) (a b : AgendaView) (u v : World D E S) (new : QueueView) → a ≡ empty_agenda 0 → ChangesEnginesAlone peer_of a b u v → u.seats.entries ≡ [] → new ≡ queued_all empty_queue 0 b.events → Seated peer_of new.next v.seats.entries
 seated_first {D} {E} {S} peer_of a b u v new nothing opened empty put =
-    let disturbs : Disturbs peer_of (empty_agenda 0) b u v = subst (λ x. Disturbs peer_of x b u v) nothing opened in
+    let changes_alone : ChangesEnginesAlone peer_of (empty_agenda 0) b u v = subst (λ x. ChangesEnginesAlone peer_of x b u v) nothing opened in
     let vacant : Seated peer_of (number_after (empty_agenda 0)) u.seats.entries =
     subst (Seated peer_of (number_after (empty_agenda 0))) (sym empty) (λ pk r at. absurd (nobody r at)) in
     let after : new.next ≡ 0 + length b.events = ap (λ (q : QueueView). q.next) put ∙ next_after empty_queue 0 b.events in
-    let next : b.next ≡ 0 = disturbs.stirs.adds.next in
+    let next : b.next ≡ 0 = changes_alone.changes.adds.next in
     let up : number_after b ≤ new.next = omega arith in
-    seated_up peer_of (number_after b) new.next v.seats.entries up (disturbs.stirs.seated vacant)
+    seated_up peer_of (number_after b) new.next v.seats.entries up (changes_alone.changes.seated vacant)

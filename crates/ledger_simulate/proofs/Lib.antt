@@ -2,6 +2,7 @@ pub mod Answering
 pub mod Beginning
 pub mod Building
 pub mod Causing
+pub mod Changing
 pub mod Delaying
 pub mod Each
 pub mod Ends
@@ -11,8 +12,7 @@ pub mod Outcomes
 pub mod Proceeding
 pub mod Reaches
 pub mod Results
-pub mod Stirring
-pub mod Striking
+pub mod SettingOff
 pub mod Turning
 pub mod Watching
 pub mod Whole

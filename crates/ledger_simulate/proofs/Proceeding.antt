@@ -13,14 +13,14 @@ use Rattle.simulate_parts.specs.declared.tracker.FinalizationUpdate.{Finalizatio
 use Rattle.simulate_parts.specs.declared.schedule.Crash.{Crash}
 use Rattle.ledger_simulate.specs.Failures.{tally_after, tally_of}
 use Rattle.ledger_simulate.specs.declared.reports.Reached.{Reached}
-use Rattle.ledger_simulate.proofs.Turning.{struck_disturbs}
-use Rattle.ledger_simulate.specs.Handling.{Grows, Handles, Rests, Seated, Stirs, Surrounds, Tells, Turns, birth_at, carried, number_after, striking, told_by}
+use Rattle.ledger_simulate.proofs.Turning.{set_off_changes_alone}
+use Rattle.ledger_simulate.specs.Handling.{Grows, Handles, Rests, Seated, ChangesEngines, HandlesOther, Tells, Turns, birth_at, carried, number_after, count_setting_off, told_by}
 use Rattle.ledger_simulate.specs.Messages.{timers_of}
 use Rattle.ledger_simulate.specs.Queue.{AgendaView, NumberedBelow, QueueView, empty_agenda, key_cmp, queued_all}
 use Rattle.ledger_simulate.specs.Runs.{Proceeds}
 use Rattle.ledger_simulate.specs.declared.event.Event.{Event}
 use Rattle.ledger_simulate.specs.declared.event.Event.TheVariants.{Started, Timer, Received, Act, CrashTick, ExitPoll, Recover}
-use Rattle.ledger_simulate.specs.declared.simulation.Told.{Told}
+use Rattle.ledger_simulate.specs.declared.handling.Told.{Told}
 use Rattle.ledger_simulate.specs.declared.world.World.{World}
 use Rattle.ledger_simulate.proofs.Engines.{passes_step, seated_step, seated_up}
 use Rattle.ledger_simulate.proofs.Numbering.{next_after}
@@ -39,7 +39,7 @@ module _ {D E S : Type 0} (peer_of : E → Peer) (journal : Option (E → List (
   turns_leave : (o : Option Reached) (pk : Peer) (birth : ℕ) (event : StepEvent) (a b : AgendaView) (us vs : List FinalizationUpdate) (u v : World D E S) → Turns peer_of journal reports height participants crashes holds o pk birth event a b us vs u v → Leaves peer_of reports a b us vs u v
   turns_leave o pk birth event a b us vs u v turns =
       let gives = turns.gives in
-      let disturbs = struck_disturbs peer_of height participants crashes holds (updates_of pk turns.out.finalized) (is_some o) (striking us (updates_of pk turns.out.finalized) o) turns.given b turns.mid v turns.struck in
+      let changes_alone = set_off_changes_alone peer_of height participants crashes holds (updates_of pk turns.out.finalized) (is_some o) (count_setting_off us (updates_of pk turns.out.finalized) o) turns.given b turns.mid v turns.set_off in
       let made : List (ℕ × Event) = timers_of pk birth turns.out.timers in
       let sent : List (ℕ × Event) = (carried u turns.mid.seats.entries pk turns.out.messages).0 in
       let long : length turns.given.events ≡ length a.events + length made + length sent =
@@ -47,8 +47,8 @@ module _ {D E S : Type 0} (peer_of : E → Peer) (journal : Option (E → List (
       let same : turns.given.next ≡ a.next = gives.next in
       let up : number_after a ≤ number_after turns.given = omega arith in
       record {
-        next = disturbs.stirs.adds.next ∙ gives.next;
-        seated = λ seated. disturbs.stirs.seated
+        next = changes_alone.changes.adds.next ∙ gives.next;
+        seated = λ seated. changes_alone.changes.seated
             (seated_up peer_of (number_after a) (number_after turns.given) turns.mid.seats.entries up
             (seated_step peer_of journal reports pk event turns.out (number_after a) u.seats.entries turns.mid.seats.entries gives.step seated));
         grows = λ seated. record {
@@ -76,21 +76,21 @@ module _ {D E S : Type 0} (peer_of : E → Peer) (journal : Option (E → List (
   tells_by o pk n event a b us vs u v birth is turns =
       subst (λ x. MatchOption x (Rests a b us vs u v) (λ m. Turns peer_of journal reports height participants crashes holds o pk m event a b us vs u v)) (sym is) turns
 
-  surrounds_leave : (event : Event) (a b : AgendaView) (us vs : List FinalizationUpdate) (u v : World D E S) → Surrounds peer_of crashes event a b us vs u v → Leaves peer_of reports a b us vs u v
-  surrounds_leave event a b us vs u v surrounds = record {
-    next = surrounds.1.adds.next;
-    seated = surrounds.1.seated;
-    grows = λ seated. grows_none reports us vs surrounds.0;
+  other_leave : (event : Event) (a b : AgendaView) (us vs : List FinalizationUpdate) (u v : World D E S) → HandlesOther peer_of crashes event a b us vs u v → Leaves peer_of reports a b us vs u v
+  other_leave event a b us vs u v other = record {
+    next = other.1.adds.next;
+    seated = other.1.seated;
+    grows = λ seated. grows_none reports us vs other.0;
   }
 
   pub handles_leave : (o : Option Reached) (key : ℕ × ℕ) (event : Event) (a b : AgendaView) (us vs : List FinalizationUpdate) (u v : World D E S) → Handles peer_of journal reports height participants crashes holds o key event a b us vs u v → Leaves peer_of reports a b us vs u v
   handles_leave o key (Started pk) a b us vs u v h = tells_leave o pk told_start a b us vs u v (birth_at u.seats.entries pk (Some key.1)) h
   handles_leave o key (Timer pk birth) a b us vs u v h = tells_leave o pk (told_timer key.0) a b us vs u v (birth_at u.seats.entries pk (Some birth)) h
   handles_leave o key (Received from to channel bytes) a b us vs u v h = tells_leave o to (told_message from channel bytes) a b us vs u v (birth_at u.seats.entries to None) h
-  handles_leave o key (Act action) a b us vs u v h = surrounds_leave (Act action) a b us vs u v h
-  handles_leave o key CrashTick a b us vs u v h = surrounds_leave CrashTick a b us vs u v h
-  handles_leave o key ExitPoll a b us vs u v h = surrounds_leave ExitPoll a b us vs u v h
-  handles_leave o key (Recover pk) a b us vs u v h = surrounds_leave (Recover pk) a b us vs u v h
+  handles_leave o key (Act action) a b us vs u v h = other_leave (Act action) a b us vs u v h
+  handles_leave o key CrashTick a b us vs u v h = other_leave CrashTick a b us vs u v h
+  handles_leave o key ExitPoll a b us vs u v h = other_leave ExitPoll a b us vs u v h
+  handles_leave o key (Recover pk) a b us vs u v h = other_leave (Recover pk) a b us vs u v h
 
   -- the same from no events made
   pub grows_from : (o : Option Reached) (n : ℕ) (key : ℕ × ℕ) (event : Event) (b : AgendaView) (us vs : List FinalizationUpdate) (u v : World D E S) → Handles peer_of journal reports height participants crashes holds o key event (empty_agenda n) b us vs u v → Seated peer_of n u.seats.entries → Grows reports us vs
@@ -145,20 +145,20 @@ module _ {D E S : Type 0} (peer_of : E → Peer) (journal : Option (E → List (
   -- an event that tells an engine this
   pub handles_told : {F : Type 0} (key : ℕ × ℕ) (event : Event) (t : Told) (a b : AgendaView) (us vs : List FinalizationUpdate) (u v : World D E S) (r : Result (Option Reached) F) → Some (t.pk, t.birth, t.event) ≡ told_by key event → IfOk r (λ o. Tells peer_of journal reports height participants crashes holds o t.pk t.birth t.event a b us vs u v) → IfOk r (λ o. Handles peer_of journal reports height participants crashes holds o key event a b us vs u v)
   handles_told key event t a b us vs u v r is told =
-      subst (λ x. IfOk r (λ o. MatchOption x (Surrounds peer_of crashes event a b us vs u v) (λ y. Tells peer_of journal reports height participants crashes holds o y.0 y.1 y.2 a b us vs u v))) is told
+      subst (λ x. IfOk r (λ o. MatchOption x (HandlesOther peer_of crashes event a b us vs u v) (λ y. Tells peer_of journal reports height participants crashes holds o y.0 y.1 y.2 a b us vs u v))) is told
 
   -- an event that is for no engine
-  pub handles_act : (o : Option Reached) (key : ℕ × ℕ) (event : Event) (action : Action) (a b : AgendaView) (us : List FinalizationUpdate) (u v : World D E S) → event ≡ Act action → Stirs peer_of a b u v → tally_of v.exercise ≡ tally_after crashes (Act action) u → Handles peer_of journal reports height participants crashes holds o key event a b us us u v
-  handles_act o key event action a b us u v is stirs tally = subst (λ e. Handles peer_of journal reports height participants crashes holds o key e a b us us u v) (sym is) (refl, stirs, tally)
+  pub handles_act : (o : Option Reached) (key : ℕ × ℕ) (event : Event) (action : Action) (a b : AgendaView) (us : List FinalizationUpdate) (u v : World D E S) → event ≡ Act action → ChangesEngines peer_of a b u v → tally_of v.exercise ≡ tally_after crashes (Act action) u → Handles peer_of journal reports height participants crashes holds o key event a b us us u v
+  handles_act o key event action a b us u v is changes tally = subst (λ e. Handles peer_of journal reports height participants crashes holds o key e a b us us u v) (sym is) (refl, changes, tally)
 
-  pub handles_tick : (o : Option Reached) (key : ℕ × ℕ) (event : Event) (a b : AgendaView) (us : List FinalizationUpdate) (u v : World D E S) → event ≡ CrashTick → Stirs peer_of a b u v → tally_of v.exercise ≡ tally_after crashes CrashTick u → Handles peer_of journal reports height participants crashes holds o key event a b us us u v
-  handles_tick o key event a b us u v is stirs tally = subst (λ e. Handles peer_of journal reports height participants crashes holds o key e a b us us u v) (sym is) (refl, stirs, tally)
+  pub handles_tick : (o : Option Reached) (key : ℕ × ℕ) (event : Event) (a b : AgendaView) (us : List FinalizationUpdate) (u v : World D E S) → event ≡ CrashTick → ChangesEngines peer_of a b u v → tally_of v.exercise ≡ tally_after crashes CrashTick u → Handles peer_of journal reports height participants crashes holds o key event a b us us u v
+  handles_tick o key event a b us u v is changes tally = subst (λ e. Handles peer_of journal reports height participants crashes holds o key e a b us us u v) (sym is) (refl, changes, tally)
 
-  pub handles_poll : (o : Option Reached) (key : ℕ × ℕ) (event : Event) (a b : AgendaView) (us : List FinalizationUpdate) (u v : World D E S) → event ≡ ExitPoll → Stirs peer_of a b u v → tally_of v.exercise ≡ tally_after crashes ExitPoll u → Handles peer_of journal reports height participants crashes holds o key event a b us us u v
-  handles_poll o key event a b us u v is stirs tally = subst (λ e. Handles peer_of journal reports height participants crashes holds o key e a b us us u v) (sym is) (refl, stirs, tally)
+  pub handles_poll : (o : Option Reached) (key : ℕ × ℕ) (event : Event) (a b : AgendaView) (us : List FinalizationUpdate) (u v : World D E S) → event ≡ ExitPoll → ChangesEngines peer_of a b u v → tally_of v.exercise ≡ tally_after crashes ExitPoll u → Handles peer_of journal reports height participants crashes holds o key event a b us us u v
+  handles_poll o key event a b us u v is changes tally = subst (λ e. Handles peer_of journal reports height participants crashes holds o key e a b us us u v) (sym is) (refl, changes, tally)
 
-  pub handles_recover : (o : Option Reached) (key : ℕ × ℕ) (event : Event) (pk : Peer) (a b : AgendaView) (us : List FinalizationUpdate) (u v : World D E S) → event ≡ Recover pk → Stirs peer_of a b u v → tally_of v.exercise ≡ tally_after crashes (Recover pk) u → Handles peer_of journal reports height participants crashes holds o key event a b us us u v
-  handles_recover o key event pk a b us u v is stirs tally = subst (λ e. Handles peer_of journal reports height participants crashes holds o key e a b us us u v) (sym is) (refl, stirs, tally)
+  pub handles_recover : (o : Option Reached) (key : ℕ × ℕ) (event : Event) (pk : Peer) (a b : AgendaView) (us : List FinalizationUpdate) (u v : World D E S) → event ≡ Recover pk → ChangesEngines peer_of a b u v → tally_of v.exercise ≡ tally_after crashes (Recover pk) u → Handles peer_of journal reports height participants crashes holds o key event a b us us u v
+  handles_recover o key event pk a b us u v is changes tally = subst (λ e. Handles peer_of journal reports height participants crashes holds o key e a b us us u v) (sym is) (refl, changes, tally)
 
   -- seats that are in order before the first event is taken off
   pub seated_begun : (before rest : QueueView) (entry : (ℕ × ℕ) × Event) (start : AgendaView) (u : World D E S) → before ≡ record rest { entries = entry ∷ rest.entries } → start ≡ empty_agenda rest.next → Seated peer_of before.next u.seats.entries → Seated peer_of (number_after start) u.seats.entries

@@ -10,27 +10,27 @@ use Rattle.simulate_parts.specs.declared.peer.Peer.{Peer}
 use Rattle.simulate_parts.specs.declared.schedule.Crash.{Crash}
 use Rattle.simulate_parts.specs.declared.tracker.FinalizationUpdate.{FinalizationUpdate}
 use Rattle.ledger_simulate.specs.Answering.{MetOn}
-use Rattle.ledger_simulate.specs.Handling.{Disturbs, Strikes, Struck, striking}
+use Rattle.ledger_simulate.specs.Handling.{ChangesEnginesAlone, SetsOff, SetsOffEach, count_setting_off}
 use Rattle.ledger_simulate.specs.Plans.{target_count}
 use Rattle.ledger_simulate.specs.Queue.{AgendaView}
 use Rattle.ledger_simulate.specs.Reaching.{ExitIs}
 use Rattle.ledger_simulate.specs.Runs.{Finds}
 use Rattle.ledger_simulate.specs.declared.reports.Reached.{Reached}
 use Rattle.ledger_simulate.specs.declared.world.World.{World}
-use Rattle.ledger_simulate.proofs.Stirring.{disturbs_none, disturbs_then}
+use Rattle.ledger_simulate.proofs.Changing.{changes_alone_none, changes_alone_then}
 
 -- no more reports than there are set failures off
-striking_within : (before done now : List FinalizationUpdate) (reached : Option Reached) → now ≡ before ++ done → IfSome reached (λ r. r.count ≤ length now) → striking before done reached ≤ length done
-striking_within before done now None since within = omega arith
-striking_within before done now (Some r) since within =
+count_setting_off_within : (before done now : List FinalizationUpdate) (reached : Option Reached) → now ≡ before ++ done → IfSome reached (λ r. r.count ≤ length now) → count_setting_off before done reached ≤ length done
+count_setting_off_within before done now None since within = omega arith
+count_setting_off_within before done now (Some r) since within =
     let all : length now ≡ length before + length done = ap length since ∙ length-append before done in
     let inside : r.count ≤ length now = within in
     omega arith
 
 -- a report that is left comes after fewer than there are
-pub turn_within : (before done now left rest all : List FinalizationUpdate) (update : FinalizationUpdate) (reached : Option Reached) → now ≡ before ++ done → IfSome reached (λ r. r.count ≤ length now) → done ++ left ≡ all → left ≡ update ∷ rest → striking before done reached < length all
+pub turn_within : (before done now left rest all : List FinalizationUpdate) (update : FinalizationUpdate) (reached : Option Reached) → now ≡ before ++ done → IfSome reached (λ r. r.count ≤ length now) → done ++ left ≡ all → left ≡ update ∷ rest → count_setting_off before done reached < length all
 turn_within before done now left rest all update reached since within whole first =
-    let upto : striking before done reached ≤ length done = striking_within before done now reached since within in
+    let upto : count_setting_off before done reached ≤ length done = count_setting_off_within before done now reached since within in
     let long : length all ≡ length done + length left = sym (ap length whole) ∙ length-append done left in
     let some : length left ≡ length rest + 1 = ap length first ∙ omega arith in
     omega arith
@@ -69,51 +69,51 @@ finds_on complaint checks height shown verdict condition required participants c
     }
 
 module _ {D E S : Type 0} (peer_of : E → Peer) (height : S → ℕ) (participants : List Peer) (crashes : List Crash) where
-  strikes_disturb : (P : World D E S → Type 0) (a b : AgendaView) (u v : World D E S) → Strikes peer_of height participants crashes P a b u v → Disturbs peer_of a b u v
-  strikes_disturb P a b u v strikes = disturbs_then peer_of a strikes.made b u strikes.mid v strikes.enters strikes.disturbs
+  sets_off_change_alone : (P : World D E S → Type 0) (a b : AgendaView) (u v : World D E S) → SetsOff peer_of height participants crashes P a b u v → ChangesEnginesAlone peer_of a b u v
+  sets_off_change_alone P a b u v sets_off = changes_alone_then peer_of a sets_off.made b u sets_off.mid v sets_off.enters sets_off.changes_alone
 
   -- a report that set failures off, by a wider fact
-  pub strikes_on : (P Q : World D E S → Type 0) (a b : AgendaView) (u v : World D E S) (prior : Option Reached) → ((w : World D E S) → P w → Q w) → MatchOption prior (Strikes peer_of height participants crashes P a b u v) (λ q. (b ≡ a) × (v ≡ u)) → MatchOption prior (Strikes peer_of height participants crashes Q a b u v) (λ q. (b ≡ a) × (v ≡ u))
-  strikes_on P Q a b u v None wider strikes = record {
-    made = strikes.made;
-    mid = strikes.mid;
-    unpassed = strikes.unpassed;
-    enters = strikes.enters;
-    entered = strikes.entered;
-    held = wider strikes.mid strikes.held;
-    disturbs = strikes.disturbs;
-    launched = strikes.launched;
-    launches = strikes.launches;
-    events = strikes.events;
-    tally = strikes.tally;
+  pub sets_off_on : (P Q : World D E S → Type 0) (a b : AgendaView) (u v : World D E S) (prior : Option Reached) → ((w : World D E S) → P w → Q w) → MatchOption prior (SetsOff peer_of height participants crashes P a b u v) (λ q. (b ≡ a) × (v ≡ u)) → MatchOption prior (SetsOff peer_of height participants crashes Q a b u v) (λ q. (b ≡ a) × (v ≡ u))
+  sets_off_on P Q a b u v None wider sets_off = record {
+    made = sets_off.made;
+    mid = sets_off.mid;
+    unpassed = sets_off.unpassed;
+    enters = sets_off.enters;
+    entered = sets_off.entered;
+    held = wider sets_off.mid sets_off.held;
+    changes_alone = sets_off.changes_alone;
+    launched = sets_off.launched;
+    launches = sets_off.launches;
+    events = sets_off.events;
+    tally = sets_off.tally;
   }
-  strikes_on P Q a b u v (Some q) wider same = same
+  sets_off_on P Q a b u v (Some q) wider same = same
 
 module _ {D E S : Type 0} (peer_of : E → Peer) (height : S → ℕ) (participants : List Peer) (crashes : List Crash) (holds : List FinalizationUpdate → Bool → World D E S → Type 0) (all : List FinalizationUpdate) where
   -- what they do to the engines
-  pub struck_disturbs : (met : Bool) (n : ℕ) (a b : AgendaView) (u v : World D E S) → Struck peer_of height participants crashes holds all met n a b u v → Disturbs peer_of a b u v
-  struck_disturbs met zero a b u v struck =
-      subst (λ x. Disturbs peer_of a x u v) (sym struck.0) (subst (λ (w : World D E S). Disturbs peer_of a a u w) (sym struck.1) (disturbs_none peer_of a u))
-  struck_disturbs met (suc n) a b u v struck =
-      disturbs_then peer_of a struck.0 b u struck.1 v (struck_disturbs false n a struck.0 u struck.1 struck.2) (strikes_disturb peer_of height participants crashes (holds (take (suc n) all) met) struck.0 b struck.1 v struck.3)
+  pub set_off_changes_alone : (met : Bool) (n : ℕ) (a b : AgendaView) (u v : World D E S) → SetsOffEach peer_of height participants crashes holds all met n a b u v → ChangesEnginesAlone peer_of a b u v
+  set_off_changes_alone met zero a b u v set_off =
+      subst (λ x. ChangesEnginesAlone peer_of a x u v) (sym set_off.0) (subst (λ (w : World D E S). ChangesEnginesAlone peer_of a a u w) (sym set_off.1) (changes_alone_none peer_of a u))
+  set_off_changes_alone met (suc n) a b u v set_off =
+      changes_alone_then peer_of a set_off.0 b u set_off.1 v (set_off_changes_alone false n a set_off.0 u set_off.1 set_off.2) (sets_off_change_alone peer_of height participants crashes (holds (take (suc n) all) met) set_off.0 b set_off.1 v set_off.3)
 
   -- one report more
-  pub struck_step : (before done rest now_reports new_reports : List FinalizationUpdate) (prior next : Option Reached) (update : FinalizationUpdate) (a m b : AgendaView) (u w v : World D E S) → now_reports ≡ before ++ done → new_reports ≡ now_reports ++ update ∷ [] → Struck peer_of height participants crashes holds all (is_some prior) (striking before done prior) a m u w → (next ≡ None → prior ≡ None) → IfSome next (λ r. MatchOption prior (r.count ≡ length new_reports) (λ q. r.count ≡ q.count)) → MatchOption prior (Strikes peer_of height participants crashes (holds (take (suc (length done)) all) (is_some next)) m b w v) (λ q. (b ≡ m) × (v ≡ w)) → Struck peer_of height participants crashes holds all (is_some next) (striking before (done ++ update ∷ []) next) a b u v
-  struck_step before done rest now_reports new_reports None None update a m b u w v since grown struck none met strikes =
+  pub set_off_step : (before done rest now_reports new_reports : List FinalizationUpdate) (prior next : Option Reached) (update : FinalizationUpdate) (a m b : AgendaView) (u w v : World D E S) → now_reports ≡ before ++ done → new_reports ≡ now_reports ++ update ∷ [] → SetsOffEach peer_of height participants crashes holds all (is_some prior) (count_setting_off before done prior) a m u w → (next ≡ None → prior ≡ None) → IfSome next (λ r. MatchOption prior (r.count ≡ length new_reports) (λ q. r.count ≡ q.count)) → MatchOption prior (SetsOff peer_of height participants crashes (holds (take (suc (length done)) all) (is_some next)) m b w v) (λ q. (b ≡ m) × (v ≡ w)) → SetsOffEach peer_of height participants crashes holds all (is_some next) (count_setting_off before (done ++ update ∷ []) next) a b u v
+  set_off_step before done rest now_reports new_reports None None update a m b u w v since grown set_off none met sets_off =
       let more : suc (length done) ≡ length (done ++ update ∷ []) = sym (length-append done (update ∷ []) ∙ omega arith) in
-      subst (λ n. Struck peer_of height participants crashes holds all false n a b u v) more (m, w, struck, strikes)
-  struck_step before done rest now_reports new_reports None (Some r) update a m b u w v since grown struck none met strikes =
+      subst (λ n. SetsOffEach peer_of height participants crashes holds all false n a b u v) more (m, w, set_off, sets_off)
+  set_off_step before done rest now_reports new_reports None (Some r) update a m b u w v since grown set_off none met sets_off =
       let whole : length now_reports ≡ length before + length done = ap length since ∙ length-append before done in
       let long : length new_reports ≡ length now_reports + 1 = ap length grown ∙ length-append now_reports (update ∷ []) in
       let at : r.count ≡ length new_reports = met in
       let more : suc (length done) ≡ r.count - length before = omega arith in
-      subst (λ n. Struck peer_of height participants crashes holds all true n a b u v) more (m, w, struck, strikes)
-  struck_step before done rest now_reports new_reports (Some q) None update a m b u w v since grown struck none met strikes = absurd (some_none (none refl))
+      subst (λ n. SetsOffEach peer_of height participants crashes holds all true n a b u v) more (m, w, set_off, sets_off)
+  set_off_step before done rest now_reports new_reports (Some q) None update a m b u w v since grown set_off none met sets_off = absurd (some_none (none refl))
     where
       some_none : Some q ≡ None → ⊥
       some_none e = cc
-  struck_step before done rest now_reports new_reports (Some q) (Some r) update a m b u w v since grown struck none met strikes =
+  set_off_step before done rest now_reports new_reports (Some q) (Some r) update a m b u w v since grown set_off none met sets_off =
       let same : r.count - length before ≡ q.count - length before = ap (λ n. n - length before) met in
-      subst (λ n. Struck peer_of height participants crashes holds all true n a b u v) (sym same)
-      (subst (λ x. Struck peer_of height participants crashes holds all true (q.count - length before) a x u v) (sym strikes.0)
-      (subst (λ (x : World D E S). Struck peer_of height participants crashes holds all true (q.count - length before) a m u x) (sym strikes.1) struck))
+      subst (λ n. SetsOffEach peer_of height participants crashes holds all true n a b u v) (sym same)
+      (subst (λ x. SetsOffEach peer_of height participants crashes holds all true (q.count - length before) a x u v) (sym sets_off.0)
+      (subst (λ (x : World D E S). SetsOffEach peer_of height participants crashes holds all true (q.count - length before) a m u x) (sym sets_off.1) set_off))

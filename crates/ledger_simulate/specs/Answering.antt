@@ -14,7 +14,7 @@ use Rattle.ledger_simulate.specs.Causes.{SkipsAmong}
 use Rattle.ledger_simulate.specs.Delays.{started_where, target_at}
 use Rattle.ledger_simulate.specs.Exercise.{missed_by}
 use Rattle.ledger_simulate.specs.Failures.{views_checked}
-use Rattle.ledger_simulate.specs.Handling.{Gives, Handles, Seated, Struck, birth_at, is_poll, number_after, told_by}
+use Rattle.ledger_simulate.specs.Handling.{Gives, Handles, Seated, SetsOffEach, birth_at, is_poll, number_after, told_by}
 use Rattle.ledger_simulate.specs.Plans.{target_count}
 use Rattle.ledger_simulate.specs.Queue.{AgendaView, QueueView, empty_agenda}
 use Rattle.ledger_simulate.specs.Reaching.{IsReached}
@@ -35,7 +35,7 @@ pub record Sees {D E S : Type 0} (peer_of : E → Peer) (height : S → ℕ) (sh
   pub upto : more ≡ earlier ++ update ∷ []
   pub made : AgendaView
   pub world : World D E S
-  pub struck : Struck peer_of height participants crashes holds updates false (length earlier) a made u world
+  pub set_off : SetsOffEach peer_of height participants crashes holds updates false (length earlier) a made u world
   pub are : states ≡ views_checked height shown crashes world
 
 -- the engine that was to be told this took one step

@@ -6,7 +6,7 @@ use Rattle.simulate_parts.specs.declared.tracker.FinalizationUpdate.{Finalizatio
 use Rattle.simulate_parts.specs.declared.tracker.ObserveFault.{ObserveFault}
 use Rattle.simulate_parts.specs.declared.peer.Peer.{Peer}
 use Rattle.ledger_simulate.specs.Failures.{first_passed, standing_of}
-use Rattle.ledger_simulate.specs.Handling.{Struck}
+use Rattle.ledger_simulate.specs.Handling.{SetsOffEach}
 use Rattle.ledger_simulate.specs.Queue.{AgendaView}
 use Rattle.ledger_simulate.specs.declared.world.World.{World}
 use Rattle.ledger_simulate.specs.declared.fault.PlanFault.{PlanFault}
@@ -38,7 +38,7 @@ pub record SkipsAmong {D E S : Type 0} (peer_of : E → Peer) (height : S → �
   pub within : count < length updates
   pub made : AgendaView
   pub world : World D E S
-  pub struck : Struck peer_of height participants crashes holds updates false count a made u world
+  pub set_off : SetsOffEach peer_of height participants crashes holds updates false count a made u world
   pub skips : first_passed height 0 crashes (standing_of world) ≡ Some skipped
 
 -- a window was passed, or memory was wanting

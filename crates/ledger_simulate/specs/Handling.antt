@@ -55,46 +55,46 @@ pub record Adds (a b : AgendaView) : Type 0 where
   pub quiet : All (λ e. IsTrue (is_quiet e.1)) added
 
 -- engines may have been stopped, and new ones started under the numbers of events that were made
-pub record Stirs {D E S : Type 0} (peer_of : E → Peer) (a b : AgendaView) (u v : World D E S) : Type 0 where
+pub record ChangesEngines {D E S : Type 0} (peer_of : E → Peer) (a b : AgendaView) (u v : World D E S) : Type 0 where
   pub adds : Adds a b
   pub kept : Survives a.next u.seats.entries v.seats.entries
   pub seated : Seated peer_of (number_after a) u.seats.entries → Seated peer_of (number_after b) v.seats.entries
   pub rules : v.rules ≡ u.rules
 
 -- the same, and the words and the links stay
-pub record Disturbs {D E S : Type 0} (peer_of : E → Peer) (a b : AgendaView) (u v : World D E S) : Type 0 where
-  pub stirs : Stirs peer_of a b u v
+pub record ChangesEnginesAlone {D E S : Type 0} (peer_of : E → Peer) (a b : AgendaView) (u v : World D E S) : Type 0 where
+  pub changes : ChangesEngines peer_of a b u v
   pub words : v.words ≡ u.words
   pub links : v.links ≡ u.links
 
 -- a report sets failures off: no window was passed, windows are entered, this holds then, and after that the delayed
 -- participants may be started
-pub record Strikes {D E S : Type 0} (peer_of : E → Peer) (height : S → ℕ) (participants : List Peer) (crashes : List Crash) (holds : World D E S → Type 0) (a b : AgendaView) (u v : World D E S) : Type 0 where
+pub record SetsOff {D E S : Type 0} (peer_of : E → Peer) (height : S → ℕ) (participants : List Peer) (crashes : List Crash) (holds : World D E S → Type 0) (a b : AgendaView) (u v : World D E S) : Type 0 where
   pub made : AgendaView
   pub mid : World D E S
   pub unpassed : first_passed height 0 crashes (standing_of u) ≡ None
-  pub enters : Disturbs peer_of a made u mid
+  pub enters : ChangesEnginesAlone peer_of a made u mid
   pub entered : standing_of mid ≡ windows_entered height 0 crashes (standing_of u)
   pub held : holds mid
-  pub disturbs : Disturbs peer_of made b mid v
+  pub changes_alone : ChangesEnginesAlone peer_of made b mid v
   pub launched : List Peer
   pub launches : Launches participants crashes mid.exercise.delayed_started v.exercise.delayed_started launched
   pub events : b.events ≡ made.events ++ starts launched
   pub tally : tally_of v.exercise ≡ tally_of mid.exercise
 
--- the first so many of these reports, one after another, set failures off: this holds as each of them did, where the
--- exit condition answered false at all but the last, and so at that one
-abbrev pub Struck : {D E S : Type 0} → (E → Peer) → (S → ℕ) → List Peer → List Crash → (List FinalizationUpdate → Bool → World D E S → Type 0) → List FinalizationUpdate → Bool → ℕ → AgendaView → AgendaView → World D E S → World D E S → Type 0
-Struck peer_of height participants crashes holds more met zero a b u v = (b ≡ a) × (v ≡ u)
-Struck {D} {E} {S} peer_of height participants crashes holds more met (suc n) a b u v =
-    (m : AgendaView) × (w : World D E S) × Struck peer_of height participants crashes holds more false n a m u w
-    × Strikes peer_of height participants crashes (holds (take (suc n) more) met) m b w v
+-- the first so many of these reports set failures off, one after another, and this held as each of them did; the exit
+-- condition answered false at each but the last of them, and at that one what is given
+abbrev pub SetsOffEach : {D E S : Type 0} → (E → Peer) → (S → ℕ) → List Peer → List Crash → (List FinalizationUpdate → Bool → World D E S → Type 0) → List FinalizationUpdate → Bool → ℕ → AgendaView → AgendaView → World D E S → World D E S → Type 0
+SetsOffEach peer_of height participants crashes holds more met zero a b u v = (b ≡ a) × (v ≡ u)
+SetsOffEach {D} {E} {S} peer_of height participants crashes holds more met (suc n) a b u v =
+    (m : AgendaView) × (w : World D E S) × SetsOffEach peer_of height participants crashes holds more false n a m u w
+    × SetsOff peer_of height participants crashes (holds (take (suc n) more) met) m b w v
 
 -- how many of a step's reports, behind earlier ones, set failures off: all, or those up to where the exit
 -- condition was met
-abbrev pub striking : List FinalizationUpdate → List FinalizationUpdate → Option Reached → ℕ
-striking before more None = length more
-striking before more (Some reached) = reached.count - length before
+abbrev pub count_setting_off : List FinalizationUpdate → List FinalizationUpdate → Option Reached → ℕ
+count_setting_off before more None = length more
+count_setting_off before more (Some reached) = reached.count - length before
 
 -- the messages that arrive of those that a peer sends while these engines run, and the words afterwards
 abbrev pub carried : {D E S : Type 0} → World D E S → List (Peer × Seat D E S) → Peer → List (Peer × ℕ × List ℕ) → List (ℕ × Event) × Lcg
@@ -124,7 +124,7 @@ pub record Turns {D E S : Type 0} (peer_of : E → Peer) (journal : Option (E �
   pub mid : World D E S
   pub gives : Gives peer_of journal reports pk birth event out a given u mid
   pub reported : vs ≡ us ++ updates_of pk out.finalized
-  pub struck : Struck peer_of height participants crashes holds (updates_of pk out.finalized) (is_some reached) (striking us (updates_of pk out.finalized) reached) given b mid v
+  pub set_off : SetsOffEach peer_of height participants crashes holds (updates_of pk out.finalized) (is_some reached) (count_setting_off us (updates_of pk out.finalized) reached) given b mid v
 
 -- nothing happened
 abbrev pub Rests : {D E S : Type 0} → AgendaView → AgendaView → List FinalizationUpdate → List FinalizationUpdate → World D E S → World D E S → Type 0
@@ -136,9 +136,9 @@ Tells peer_of journal reports height participants crashes holds reached pk birth
     MatchOption (birth_at u.seats.entries pk birth) (Rests a b us vs u v) (λ n. Turns peer_of journal reports height participants crashes holds reached pk n event a b us vs u v)
 
 -- an event that is for no engine was handled
-abbrev pub Surrounds : {D E S : Type 0} → (E → Peer) → List Crash → Event → AgendaView → AgendaView → List FinalizationUpdate → List FinalizationUpdate → World D E S → World D E S → Type 0
-Surrounds peer_of crashes event a b us vs u v =
-    (vs ≡ us) × Stirs peer_of a b u v × (tally_of v.exercise ≡ tally_after crashes event u)
+abbrev pub HandlesOther : {D E S : Type 0} → (E → Peer) → List Crash → Event → AgendaView → AgendaView → List FinalizationUpdate → List FinalizationUpdate → World D E S → World D E S → Type 0
+HandlesOther peer_of crashes event a b us vs u v =
+    (vs ≡ us) × ChangesEngines peer_of a b u v × (tally_of v.exercise ≡ tally_after crashes event u)
 
 -- what an event of this time and number tells an engine: the engine's peer, its birth where one is given,
 -- and what it is told
@@ -172,7 +172,7 @@ polls_first q = option_map_or (λ e. is_poll e.1) (slice_get q.entries 0) false
 -- the event of this time and number was handled, and the exit condition was met there, if it was
 abbrev pub Handles : {D E S : Type 0} → (E → Peer) → Option (E → List (StepEvent × StepOut)) → Option (FinalizationUpdate → Bool) → (S → ℕ) → List Peer → List Crash → (List FinalizationUpdate → Bool → World D E S → Type 0) → Option Reached → ℕ × ℕ → Event → AgendaView → AgendaView → List FinalizationUpdate → List FinalizationUpdate → World D E S → World D E S → Type 0
 Handles peer_of journal reports height participants crashes holds reached key event a b us vs u v =
-    MatchOption (told_by key event) (Surrounds peer_of crashes event a b us vs u v) (λ t. Tells peer_of journal reports height participants crashes holds reached t.0 t.1 t.2 a b us vs u v)
+    MatchOption (told_by key event) (HandlesOther peer_of crashes event a b us vs u v) (λ t. Tells peer_of journal reports height participants crashes holds reached t.0 t.1 t.2 a b us vs u v)
 
 -- a list has grown at its end by reports that pass the test, where one is told
 pub record Grows (reports : Option (FinalizationUpdate → Bool)) (before after : List FinalizationUpdate) : Type 0 where

@@ -17,6 +17,7 @@ mod asks;
 mod event;
 mod exercise;
 mod fault;
+mod handling;
 mod links;
 mod messages;
 mod opening;

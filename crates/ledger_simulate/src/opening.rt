@@ -2,7 +2,7 @@
 ghost use Rattle.std.specs.Prelude.{◌≡◌, ◌++◌, ◌∷◌, [], OnOk, map};
 ghost use Rattle.std.specs.List.{flat_map};
 ghost use Rattle.simulate_parts.specs.Team.{others};
-ghost use Rattle.ledger_simulate.specs.Handling.{Disturbs};
+ghost use Rattle.ledger_simulate.specs.Handling.{ChangesEnginesAlone};
 ghost use Rattle.ledger_simulate.specs.Opening.{actions_of, first_poll, first_tick, opening, starts};
 ghost use Rattle.ledger_simulate.specs.Plans.{named_late};
 ghost use Rattle.ledger_simulate.specs.declared.event.Event.TheVariants.{Act};
@@ -26,7 +26,7 @@ pub fn open<D: EngineDefinition>(
     polls: bool,
 ) -> Result<(), OutOfMemory>
     ensures made { OnOk result (agenda.new ≡ record agenda.old { events = agenda.old.events ++ opening plan.now.participants plan.now.crashes polls }) }
-    ensures disturbs { OnOk result (Disturbs (D.peer_of plan.now.engine) agenda.old agenda.new world.old world.new) }
+    ensures changes_alone { OnOk result (ChangesEnginesAlone (D.peer_of plan.now.engine) agenda.old agenda.new world.old world.new) }
     ensures exercise { OnOk result (world.new.exercise ≡ world.old.exercise) }
 {
     match start_prompt(plan, world, agenda) {
@@ -46,7 +46,7 @@ fn start_prompt<D: EngineDefinition>(
     agenda: &mut Agenda,
 ) -> Result<(), OutOfMemory>
     ensures made { OnOk result (agenda.new ≡ record agenda.old { events = agenda.old.events ++ starts (others (named_late plan.now.crashes) plan.now.participants) }) }
-    ensures disturbs { OnOk result (Disturbs (D.peer_of plan.now.engine) agenda.old agenda.new world.old world.new) }
+    ensures changes_alone { OnOk result (ChangesEnginesAlone (D.peer_of plan.now.engine) agenda.old agenda.new world.old world.new) }
     ensures exercise { OnOk result (world.new.exercise ≡ world.old.exercise) }
 {
     for pk in plan.participants.as_slice() {
@@ -66,7 +66,7 @@ fn start_if_prompt<D: EngineDefinition>(
     pk: &Peer,
 ) -> Result<(), OutOfMemory>
     ensures made { OnOk result (agenda.new ≡ record agenda.old { events = agenda.old.events ++ starts (others (named_late plan.now.crashes) (pk.now ∷ [])) }) }
-    ensures disturbs { OnOk result (Disturbs (D.peer_of plan.now.engine) agenda.old agenda.new world.old world.new) }
+    ensures changes_alone { OnOk result (ChangesEnginesAlone (D.peer_of plan.now.engine) agenda.old agenda.new world.old world.new) }
     ensures exercise { OnOk result (world.new.exercise ≡ world.old.exercise) }
 {
     if is_among(named_late_by(plan.crashes.as_slice()), pk) {

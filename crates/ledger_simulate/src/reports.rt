@@ -7,7 +7,7 @@ ghost use Rattle.ledger_simulate.specs.Answering.{IsComplaint, IsFailure, MetOn,
 ghost use Rattle.ledger_simulate.specs.Causes.{SkipsAmong, StopComes, stops_asked};
 ghost use Rattle.ledger_simulate.specs.Delays.{started_by, starts, target_at};
 ghost use Rattle.ledger_simulate.specs.Failures.{first_passed, standing_of, views_checked};
-ghost use Rattle.ledger_simulate.specs.Handling.{Disturbs, Strikes, Struck, striking};
+ghost use Rattle.ledger_simulate.specs.Handling.{ChangesEnginesAlone, SetsOff, SetsOffEach, count_setting_off};
 ghost use Rattle.ledger_simulate.specs.Plans.{target_count};
 ghost use Rattle.ledger_simulate.specs.Reaching.{ExitIs, IsReached};
 ghost use Rattle.ledger_simulate.specs.Runs.{Finds, Sound};
@@ -100,8 +100,8 @@ fn take_report<D: EngineDefinition>(
     agenda: &mut Agenda,
     update: FinalizationUpdate,
 ) -> Result<Option<Reached>, Stop>
-    ensures disturbs { OnOk result (Disturbs (D.peer_of plan.now.engine) agenda.old agenda.new world.old world.new) }
-    ensures strikes { IfOk result (λ o. Strikes (D.peer_of plan.now.engine) D.State.height_of plan.now.participants plan.now.crashes (Finds (λ p. finalization_complaint p) plan.now.finalization_property D.State.height_of D.State.bytes_of (λ c. exit_verdict c) plan.now.exit_condition plan.now.required_finalizations plan.now.participants plan.now.crashes watch.old (update ∷ []) (is_some o)) agenda.old agenda.new world.old world.new) }
+    ensures changes_alone { OnOk result (ChangesEnginesAlone (D.peer_of plan.now.engine) agenda.old agenda.new world.old world.new) }
+    ensures sets_off { IfOk result (λ o. SetsOff (D.peer_of plan.now.engine) D.State.height_of plan.now.participants plan.now.crashes (Finds (λ p. finalization_complaint p) plan.now.finalization_property D.State.height_of D.State.bytes_of (λ c. exit_verdict c) plan.now.exit_condition plan.now.required_finalizations plan.now.participants plan.now.crashes watch.old (update ∷ []) (is_some o)) agenda.old agenda.new world.old world.new) }
     ensures updates { OnOk result (watch.new ≡ watch.old ++ update ∷ []) }
     ensures reached { IfOk result (λ o. IfSome o (λ r. IsReached (λ c. exit_verdict c) plan.now.exit_condition plan.now.required_finalizations (target_count plan.now.participants plan.now.crashes world.new.exercise.delayed_started) watch.new r)) }
     ensures started { IfOk result (λ o. o ≡ None → world.new.exercise.delayed_started ≡ (world.old.exercise.delayed_started || starts plan.now.participants plan.now.crashes (tracker_of watch.new))) }
@@ -207,8 +207,8 @@ fn next_report<D: EngineDefinition>(
 ) -> Result<Option<Reached>, Stop>
     requires reached { IfSome reached (λ r. IsReached (λ c. exit_verdict c) plan.now.exit_condition plan.now.required_finalizations (target_count plan.now.participants plan.now.crashes world.old.exercise.delayed_started) watch.old r) }
     requires sound { IfSome reached (λ r. Sound (λ p. finalization_complaint p) plan.now.finalization_property D.State.height_of D.State.bytes_of world.old.seats.entries) }
-    ensures disturbs { OnOk result (Disturbs (D.peer_of plan.now.engine) agenda.old agenda.new world.old world.new) }
-    ensures strikes { IfOk result (λ o. MatchOption reached (Strikes (D.peer_of plan.now.engine) D.State.height_of plan.now.participants plan.now.crashes (Finds (λ p. finalization_complaint p) plan.now.finalization_property D.State.height_of D.State.bytes_of (λ c. exit_verdict c) plan.now.exit_condition plan.now.required_finalizations plan.now.participants plan.now.crashes watch.old (update ∷ []) (is_some o)) agenda.old agenda.new world.old world.new) (λ q. (agenda.new ≡ agenda.old) × (world.new ≡ world.old))) }
+    ensures changes_alone { OnOk result (ChangesEnginesAlone (D.peer_of plan.now.engine) agenda.old agenda.new world.old world.new) }
+    ensures sets_off { IfOk result (λ o. MatchOption reached (SetsOff (D.peer_of plan.now.engine) D.State.height_of plan.now.participants plan.now.crashes (Finds (λ p. finalization_complaint p) plan.now.finalization_property D.State.height_of D.State.bytes_of (λ c. exit_verdict c) plan.now.exit_condition plan.now.required_finalizations plan.now.participants plan.now.crashes watch.old (update ∷ []) (is_some o)) agenda.old agenda.new world.old world.new) (λ q. (agenda.new ≡ agenda.old) × (world.new ≡ world.old))) }
     ensures updates { OnOk result (watch.new ≡ watch.old ++ update ∷ []) }
     ensures reached { IfOk result (λ o. IfSome o (λ r. IsReached (λ c. exit_verdict c) plan.now.exit_condition plan.now.required_finalizations (target_count plan.now.participants plan.now.crashes world.new.exercise.delayed_started) watch.new r)) }
     ensures started { IfOk result (λ o. o ≡ None → (reached ≡ None) × (world.new.exercise.delayed_started ≡ (world.old.exercise.delayed_started || starts plan.now.participants plan.now.crashes (tracker_of watch.new)))) }
@@ -237,8 +237,8 @@ pub fn take_reports<D: EngineDefinition>(
     agenda: &mut Agenda,
     updates: Vec<FinalizationUpdate>,
 ) -> Result<Option<Reached>, Stop>
-    ensures disturbs { OnOk result (Disturbs (D.peer_of plan.now.engine) agenda.old agenda.new world.old world.new) }
-    ensures struck { IfOk result (λ o. Struck (D.peer_of plan.now.engine) D.State.height_of plan.now.participants plan.now.crashes (Finds (λ p. finalization_complaint p) plan.now.finalization_property D.State.height_of D.State.bytes_of (λ c. exit_verdict c) plan.now.exit_condition plan.now.required_finalizations plan.now.participants plan.now.crashes watch.old) updates.items (is_some o) (striking watch.old updates.items o) agenda.old agenda.new world.old world.new) }
+    ensures changes_alone { OnOk result (ChangesEnginesAlone (D.peer_of plan.now.engine) agenda.old agenda.new world.old world.new) }
+    ensures set_off { IfOk result (λ o. SetsOffEach (D.peer_of plan.now.engine) D.State.height_of plan.now.participants plan.now.crashes (Finds (λ p. finalization_complaint p) plan.now.finalization_property D.State.height_of D.State.bytes_of (λ c. exit_verdict c) plan.now.exit_condition plan.now.required_finalizations plan.now.participants plan.now.crashes watch.old) updates.items (is_some o) (count_setting_off watch.old updates.items o) agenda.old agenda.new world.old world.new) }
     ensures updates { OnOk result (watch.new ≡ watch.old ++ updates.items) }
     ensures reached { IfOk result (λ o. IfSome o (λ r. IsReached (λ c. exit_verdict c) plan.now.exit_condition plan.now.required_finalizations (target_count plan.now.participants plan.now.crashes world.new.exercise.delayed_started) watch.new r)) }
     ensures started { IfOk result (λ o. world.new.exercise.delayed_started ≡ started_by plan.now.participants plan.now.crashes watch.old world.old.exercise.delayed_started updates.items o) }

@@ -14,8 +14,8 @@ pub struct Setting {
     pub participants: List<Peer>,
     pub crashes: List<Crash>,
     pub ghost distinct: { DistinctPeers participants },
-    pub ghost one_delays: { count_by delays crashes ≤ 1 },
-    pub ghost one_strikes: { count_by strikes_at_random crashes ≤ 1 },
+    pub ghost one_delay: { count_by delays crashes ≤ 1 },
+    pub ghost one_random: { count_by strikes_at_random crashes ≤ 1 },
 }
 
 impl Setting {

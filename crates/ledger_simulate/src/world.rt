@@ -10,7 +10,7 @@ ghost use Rattle.simulate_parts.specs.Tracker.{finalized_rounds, peer_cmp};
 ghost use Rattle.ledger_simulate.specs.Causes.{IsSkip};
 ghost use Rattle.ledger_simulate.specs.Delays.{Launches, delay_round, reaches, starts};
 ghost use Rattle.ledger_simulate.specs.Failures.{acted, crashed, crashed_all, first_passed, height_at, looked_at, no_tally, passed_at, picked, random_count, standing_of, struck_at_random, tally_of, window_entered, window_passed, windows_entered};
-ghost use Rattle.ledger_simulate.specs.Handling.{Disturbs, Stirs};
+ghost use Rattle.ledger_simulate.specs.Handling.{ChangesEnginesAlone, ChangesEngines};
 ghost use Rattle.ledger_simulate.specs.Links.{changed_links, common_link};
 ghost use Rattle.ledger_simulate.specs.Opening.{starts as first_starts};
 ghost use Rattle.ledger_simulate.specs.Plans.{named_late, target_count};
@@ -83,7 +83,7 @@ impl<D: EngineDefinition> World<D> {
         pk: Peer,
     ) -> Result<(), OutOfMemory>
         ensures made { OnOk result (agenda.new ≡ record agenda.old { events = agenda.old.events ++ (0, Started pk) ∷ [] }) }
-        ensures disturbs { OnOk result (Disturbs (D.peer_of plan.now.engine) agenda.old agenda.new self.old self.new) }
+        ensures changes_alone { OnOk result (ChangesEnginesAlone (D.peer_of plan.now.engine) agenda.old agenda.new self.old self.new) }
         ensures exercise { OnOk result (self.new.exercise ≡ self.old.exercise) }
     {
         let participants = plan.participants.as_slice();
@@ -117,7 +117,7 @@ impl<D: EngineDefinition> World<D> {
         agenda: &mut Agenda,
         pk: Peer,
     ) -> Result<(), OutOfMemory>
-        ensures disturbs { OnOk result (Disturbs (D.peer_of plan.now.engine) agenda.old agenda.new self.old self.new) }
+        ensures changes_alone { OnOk result (ChangesEnginesAlone (D.peer_of plan.now.engine) agenda.old agenda.new self.old self.new) }
         ensures exercise { OnOk result (self.new.exercise ≡ self.old.exercise) }
     {
         if !is_among(plan.participants.as_slice(), &pk) {
@@ -146,7 +146,7 @@ impl<D: EngineDefinition> World<D> {
 
     /// Stops a peer for a downtime.
     fn crash_for(&mut self, agenda: &mut Agenda, pk: Peer, downtime: u64) -> Result<(), OutOfMemory>
-        ensures disturbs { OnOk result ((peer_of : _) → Disturbs peer_of agenda.old agenda.new self.old self.new) }
+        ensures changes_alone { OnOk result ((peer_of : _) → ChangesEnginesAlone peer_of agenda.old agenda.new self.old self.new) }
         ensures standing { OnOk result (standing_of self.new ≡ crashed (standing_of self.old) pk) }
         ensures started { OnOk result (self.new.exercise.delayed_started ≡ self.old.exercise.delayed_started) }
     {
@@ -166,7 +166,7 @@ impl<D: EngineDefinition> World<D> {
         agenda: &mut Agenda,
         action: Action,
     ) -> Result<(), OutOfMemory>
-        ensures stirs { OnOk result (Stirs (D.peer_of plan.now.engine) agenda.old agenda.new self.old self.new) }
+        ensures changes { OnOk result (ChangesEngines (D.peer_of plan.now.engine) agenda.old agenda.new self.old self.new) }
         ensures tally { OnOk result (tally_of self.new.exercise ≡ acted action (standing_of self.old)) }
         ensures started { OnOk result (self.new.exercise.delayed_started ≡ self.old.exercise.delayed_started) }
     {
@@ -223,7 +223,7 @@ impl<D: EngineDefinition> World<D> {
         plan: &Plan<D>,
         agenda: &mut Agenda,
     ) -> Result<(), OutOfMemory>
-        ensures stirs { OnOk result (Stirs (D.peer_of plan.now.engine) agenda.old agenda.new self.old self.new) }
+        ensures changes { OnOk result (ChangesEngines (D.peer_of plan.now.engine) agenda.old agenda.new self.old self.new) }
         ensures tally { OnOk result (tally_of self.new.exercise ≡ (struck_at_random plan.now.crashes self.old.words (standing_of self.old)).tally) }
         ensures started { OnOk result (self.new.exercise.delayed_started ≡ self.old.exercise.delayed_started) }
     {
@@ -248,7 +248,7 @@ impl<D: EngineDefinition> World<D> {
         peers: Vec<Peer>,
         downtime: u64,
     ) -> Result<(), OutOfMemory>
-        ensures stirs { OnOk result ((peer_of : _) → Stirs peer_of agenda.old agenda.new self.old self.new) }
+        ensures changes { OnOk result ((peer_of : _) → ChangesEngines peer_of agenda.old agenda.new self.old self.new) }
         ensures standing { OnOk result (standing_of self.new ≡ crashed_all (standing_of self.old) peers.items) }
         ensures started { OnOk result (self.new.exercise.delayed_started ≡ self.old.exercise.delayed_started) }
     {
@@ -263,7 +263,7 @@ impl<D: EngineDefinition> World<D> {
 
     /// Crashes the participants whose heights have entered the windows in which they are to crash.
     pub fn enter_windows(&mut self, plan: &Plan<D>, agenda: &mut Agenda) -> Result<(), Stop>
-        ensures disturbs { OnOk result (Disturbs (D.peer_of plan.now.engine) agenda.old agenda.new self.old self.new) }
+        ensures changes_alone { OnOk result (ChangesEnginesAlone (D.peer_of plan.now.engine) agenda.old agenda.new self.old self.new) }
         ensures standing { OnOk result (standing_of self.new ≡ windows_entered D.State.height_of 0 plan.now.crashes (standing_of self.old)) }
         ensures unpassed { OnOk result (first_passed D.State.height_of 0 plan.now.crashes (standing_of self.old) ≡ None) }
         ensures started { OnOk result (self.new.exercise.delayed_started ≡ self.old.exercise.delayed_started) }
@@ -281,7 +281,7 @@ impl<D: EngineDefinition> World<D> {
 
     /// Looks at the window of the configured failure at this place, if it is one.
     fn look_at(&mut self, agenda: &mut Agenda, index: usize, crash: &Crash) -> Result<(), Stop>
-        ensures disturbs { OnOk result ((peer_of : _) → Disturbs peer_of agenda.old agenda.new self.old self.new) }
+        ensures changes_alone { OnOk result ((peer_of : _) → ChangesEnginesAlone peer_of agenda.old agenda.new self.old self.new) }
         ensures standing { OnOk result (standing_of self.new ≡ looked_at D.State.height_of index crash.now (standing_of self.old)) }
         ensures unpassed { OnOk result (passed_at D.State.height_of index crash.now (standing_of self.old) ≡ None) }
         ensures started { OnOk result (self.new.exercise.delayed_started ≡ self.old.exercise.delayed_started) }
@@ -317,7 +317,7 @@ impl<D: EngineDefinition> World<D> {
         index: usize,
         window: Window,
     ) -> Result<(), Stop>
-        ensures disturbs { OnOk result ((peer_of : _) → Disturbs peer_of agenda.old agenda.new self.old self.new) }
+        ensures changes_alone { OnOk result ((peer_of : _) → ChangesEnginesAlone peer_of agenda.old agenda.new self.old self.new) }
         ensures standing { OnOk result (standing_of self.new ≡ window_entered D.State.height_of index window.participant window.first window.last (standing_of self.old)) }
         ensures unpassed { OnOk result (window_passed D.State.height_of index window.participant window.first window.last (standing_of self.old) ≡ None) }
         ensures started { OnOk result (self.new.exercise.delayed_started ≡ self.old.exercise.delayed_started) }
@@ -363,7 +363,7 @@ impl<D: EngineDefinition> World<D> {
         agenda: &mut Agenda,
         tracker: &ProgressTracker,
     ) -> Result<(), OutOfMemory>
-        ensures disturbs { OnOk result (Disturbs (D.peer_of plan.now.engine) agenda.old agenda.new self.old self.new) }
+        ensures changes_alone { OnOk result (ChangesEnginesAlone (D.peer_of plan.now.engine) agenda.old agenda.new self.old self.new) }
         ensures tally { OnOk result (tally_of self.new.exercise ≡ tally_of self.old.exercise) }
         ensures launches { OnOk result ((launched : List Peer) × Launches plan.now.participants plan.now.crashes self.old.exercise.delayed_started self.new.exercise.delayed_started launched × (agenda.new.events ≡ agenda.old.events ++ first_starts launched)) }
         ensures started { OnOk result (self.new.exercise.delayed_started ≡ (self.old.exercise.delayed_started || starts plan.now.participants plan.now.crashes tracker.now)) }
@@ -393,7 +393,7 @@ impl<D: EngineDefinition> World<D> {
         agenda: &mut Agenda,
         participants: Vec<Peer>,
     ) -> Result<(), OutOfMemory>
-        ensures disturbs { OnOk result (Disturbs (D.peer_of plan.now.engine) agenda.old agenda.new self.old self.new) }
+        ensures changes_alone { OnOk result (ChangesEnginesAlone (D.peer_of plan.now.engine) agenda.old agenda.new self.old self.new) }
         ensures events { OnOk result (agenda.new.events ≡ agenda.old.events ++ first_starts participants.items) }
         ensures exercise { OnOk result (self.new.exercise ≡ self.old.exercise) }
     {

@@ -1,7 +1,7 @@
 use Rattle.std.proofs.Common.{◌≡◌, ◌∷◌, [], ◌++◌, ◌∙◌, ap, refl, sym, subst, is_some, true, false}
 use Rattle.ledger_simulate.specs.Plans.{target_count}
 use Rattle.ledger_simulate.proofs.Causing.{stop_asked, stop_forks, stop_skips}
-use Rattle.ledger_simulate.proofs.Stirring.{disturbs_none, disturbs_then}
+use Rattle.ledger_simulate.proofs.Changing.{changes_alone_none, changes_alone_then}
 use Rattle.ledger_simulate.proofs.Answering.{stop_answered_since}
 use Rattle.simulate_parts.specs.Seats.{active_views}
 use Rattle.simulate_parts.specs.Tracker.{tracker_of}
@@ -11,17 +11,17 @@ use Rattle.ledger_simulate.proofs.Delaying.{launches_none}
 use Rattle.ledger_simulate.proofs.Delaying.{some_is}
 use Rattle.ledger_simulate.proofs.reports.take_report.Goals as goal
 
-pub returns-in-Ok-start_delayed-clause-disturbs : goal.returns-in-Ok-start_delayed-clause-disturbs
-returns-in-Ok-start_delayed-clause-disturbs g c =
-    disturbs_then (g.D.EngineDefinition.peer_of c.args.plan.now.engine) c.args.agenda.now c.enter_windows.new.agenda c.start_delayed.new.agenda c.args.world.now c.enter_windows.new.self c.start_delayed.new.self
-    c.in-Ok-enter_windows.ensures.disturbs c.in-Ok-start_delayed.ensures.disturbs
+pub returns-in-Ok-start_delayed-clause-changes_alone : goal.returns-in-Ok-start_delayed-clause-changes_alone
+returns-in-Ok-start_delayed-clause-changes_alone g c =
+    changes_alone_then (g.D.EngineDefinition.peer_of c.args.plan.now.engine) c.args.agenda.now c.enter_windows.new.agenda c.start_delayed.new.agenda c.args.world.now c.enter_windows.new.self c.start_delayed.new.self
+    c.in-Ok-enter_windows.ensures.changes_alone c.in-Ok-start_delayed.ensures.changes_alone
 
-pub returns-in-Ok-start_delayed-clause-strikes : goal.returns-in-Ok-start_delayed-clause-strikes
-returns-in-Ok-start_delayed-clause-strikes g c = record {
+pub returns-in-Ok-start_delayed-clause-sets_off : goal.returns-in-Ok-start_delayed-clause-sets_off
+returns-in-Ok-start_delayed-clause-sets_off g c = record {
   made = c.enter_windows.new.agenda;
   mid = c.enter_windows.new.self;
   unpassed = c.in-Ok-enter_windows.ensures.unpassed;
-  enters = c.in-Ok-enter_windows.ensures.disturbs;
+  enters = c.in-Ok-enter_windows.ensures.changes_alone;
   entered = c.in-Ok-enter_windows.ensures.standing;
   held = record {
     sound = c.in-Ok-None.ensures.sound;
@@ -29,19 +29,19 @@ returns-in-Ok-start_delayed-clause-strikes g c = record {
         subst (λ us. ExitIs (λ x. (goal.ExitCondition-dyn g (x.vtable, x.value)).exit_verdict x.value) c.args.plan.now.exit_condition c.args.plan.now.required_finalizations (target_count c.args.plan.now.participants c.args.plan.now.crashes c.enter_windows.new.self.exercise.delayed_started) (tracker_of us) (active_views g.D.State.ProcessedHeight.height_of g.D.State.ProcessedHeight.bytes_of c.enter_windows.new.self.seats.entries) false) c.in-Ok.ensures.ok
         (subst (λ o. ExitIs (λ x. (goal.ExitCondition-dyn g (x.vtable, x.value)).exit_verdict x.value) c.args.plan.now.exit_condition c.args.plan.now.required_finalizations (target_count c.args.plan.now.participants c.args.plan.now.crashes c.enter_windows.new.self.exercise.delayed_started) (tracker_of c.observe.new.self) (active_views g.D.State.ProcessedHeight.height_of g.D.State.ProcessedHeight.bytes_of c.enter_windows.new.self.seats.entries) (is_some o)) c.in-Ok-None.field-0-is c.in-Ok-None.ensures.answers);
   };
-  disturbs = c.in-Ok-start_delayed.ensures.disturbs;
+  changes_alone = c.in-Ok-start_delayed.ensures.changes_alone;
   launched = c.in-Ok-start_delayed.ensures.launches.0;
   launches = c.in-Ok-start_delayed.ensures.launches.1;
   events = c.in-Ok-start_delayed.ensures.launches.2;
   tally = c.in-Ok-start_delayed.ensures.tally;
 }
 
-pub returns-in-Ok-Some-clause-strikes : goal.returns-in-Ok-Some-clause-strikes
-returns-in-Ok-Some-clause-strikes g c = record {
+pub returns-in-Ok-Some-clause-sets_off : goal.returns-in-Ok-Some-clause-sets_off
+returns-in-Ok-Some-clause-sets_off g c = record {
   made = c.enter_windows.new.agenda;
   mid = c.enter_windows.new.self;
   unpassed = c.in-Ok-enter_windows.ensures.unpassed;
-  enters = c.in-Ok-enter_windows.ensures.disturbs;
+  enters = c.in-Ok-enter_windows.ensures.changes_alone;
   entered = c.in-Ok-enter_windows.ensures.standing;
   held = record {
     sound = c.in-Ok-Some.ensures.sound;
@@ -49,7 +49,7 @@ returns-in-Ok-Some-clause-strikes g c = record {
         subst (λ us. ExitIs (λ x. (goal.ExitCondition-dyn g (x.vtable, x.value)).exit_verdict x.value) c.args.plan.now.exit_condition c.args.plan.now.required_finalizations (target_count c.args.plan.now.participants c.args.plan.now.crashes c.enter_windows.new.self.exercise.delayed_started) (tracker_of us) (active_views g.D.State.ProcessedHeight.height_of g.D.State.ProcessedHeight.bytes_of c.enter_windows.new.self.seats.entries) true) c.in-Ok.ensures.ok
         (subst (λ o. ExitIs (λ x. (goal.ExitCondition-dyn g (x.vtable, x.value)).exit_verdict x.value) c.args.plan.now.exit_condition c.args.plan.now.required_finalizations (target_count c.args.plan.now.participants c.args.plan.now.crashes c.enter_windows.new.self.exercise.delayed_started) (tracker_of c.observe.new.self) (active_views g.D.State.ProcessedHeight.height_of g.D.State.ProcessedHeight.bytes_of c.enter_windows.new.self.seats.entries) (is_some o)) c.in-Ok-Some.field-0-is c.in-Ok-Some.ensures.answers);
   };
-  disturbs = disturbs_none (g.D.EngineDefinition.peer_of c.args.plan.now.engine) c.enter_windows.new.agenda c.enter_windows.new.self;
+  changes_alone = changes_alone_none (g.D.EngineDefinition.peer_of c.args.plan.now.engine) c.enter_windows.new.agenda c.enter_windows.new.self;
   launched = [];
   launches = launches_none c.args.plan.now.participants c.args.plan.now.crashes c.enter_windows.new.self.exercise.delayed_started;
   events = sym (append-nil c.enter_windows.new.agenda.events);

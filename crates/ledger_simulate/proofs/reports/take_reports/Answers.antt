@@ -4,13 +4,13 @@ use Rattle.std.proofs.lemmas.Grind.{common_steps}
 use Rattle.std.proofs.lemmas.List.{append-nil, append_assoc}
 use Rattle.ledger_simulate.proofs.Causing.{stop_since}
 use Rattle.ledger_simulate.proofs.Reaches.{updates_more}
-use Rattle.ledger_simulate.proofs.Stirring.{disturbs_none, disturbs_then}
+use Rattle.ledger_simulate.proofs.Changing.{changes_alone_none, changes_alone_then}
 use Rattle.ledger_simulate.proofs.Answering.{left_more, stop_answered_since}
 use Rattle.ledger_simulate.specs.Answering.{Sees}
 use Rattle.ledger_simulate.specs.Delays.{started_by}
 use Rattle.ledger_simulate.proofs.Delaying.{some_map, started_step, target_more}
-use Rattle.ledger_simulate.specs.Handling.{Struck, striking}
-use Rattle.ledger_simulate.proofs.Turning.{finds_on, met_step, strikes_on, struck_step, turn_within}
+use Rattle.ledger_simulate.specs.Handling.{SetsOffEach, count_setting_off}
+use Rattle.ledger_simulate.proofs.Turning.{finds_on, met_step, sets_off_on, set_off_step, turn_within}
 use Rattle.ledger_simulate.specs.Runs.{Finds}
 use Rattle.simulate_parts.specs.declared.engine.StateView.{StateView}
 use Rattle.simulate_parts.specs.declared.tracker.FinalizationUpdate.{FinalizationUpdate}
@@ -19,7 +19,7 @@ use Rattle.ledger_simulate.proofs.reports.take_reports.Goals as goal
 
 pub loop-update-init : goal.loop-update-init
 loop-update-init g c = record {
-  disturbs = disturbs_none (g.D.EngineDefinition.peer_of c.args.plan.now.engine) c.args.agenda.now c.args.world.now;
+  changes_alone = changes_alone_none (g.D.EngineDefinition.peer_of c.args.plan.now.engine) c.args.agenda.now c.args.world.now;
   since = ([], sym (append-nil c.args.watch.now), c.into_iter-update-iterator.ensures.into_iter_gives.0, refl, (refl, refl));
   updates = ap (λ us. c.args.watch.now ++ us) c.into_iter-update-iterator.ensures.into_iter_gives.0;
   reached = tt;
@@ -29,9 +29,9 @@ loop-update-init g c = record {
 
 pub loop-update-preserved : goal.loop-update-preserved
 loop-update-preserved g c = record {
-  disturbs =
-      disturbs_then (g.D.EngineDefinition.peer_of c.args.plan.now.engine) c.args.agenda.now c.loop-update.agenda c.next_report.new.agenda c.args.world.now c.loop-update.world c.next_report.new.world
-      c.loop-update.invariant.disturbs c.in-Ok.ensures.disturbs;
+  changes_alone =
+      changes_alone_then (g.D.EngineDefinition.peer_of c.args.plan.now.engine) c.args.agenda.now c.loop-update.agenda c.next_report.new.agenda c.args.world.now c.loop-update.world c.next_report.new.world
+      c.loop-update.invariant.changes_alone c.in-Ok.ensures.changes_alone;
   since = (
     c.loop-update.invariant.since.0 ++ c.in-Some.update ∷ [],
     c.in-Ok.ensures.updates ∙ ap (λ us. us ++ c.in-Some.update ∷ []) c.loop-update.invariant.since.1 ∙ append_assoc c.args.watch.now c.loop-update.invariant.since.0 (c.in-Some.update ∷ []),
@@ -40,14 +40,14 @@ loop-update-preserved g c = record {
         c.loop-update.invariant.since.1 c.in-Ok.ensures.updates c.loop-update.invariant.since.3
         (some_map c.loop-update.reached (λ r at. at.within) c.loop-update.invariant.reached)
         c.in-Ok.ensures.started c.in-Ok.ensures.met,
-    struck_step (g.D.EngineDefinition.peer_of c.args.plan.now.engine) g.D.State.ProcessedHeight.height_of c.args.plan.now.participants c.args.plan.now.crashes (Finds (λ x. (goal.FinalizationProperty-dyn g (x.vtable, x.value)).finalization_complaint x.value) c.args.plan.now.finalization_property g.D.State.ProcessedHeight.height_of g.D.State.ProcessedHeight.bytes_of (λ x. (goal.ExitCondition-dyn g (x.vtable, x.value)).exit_verdict x.value) c.args.plan.now.exit_condition c.args.plan.now.required_finalizations c.args.plan.now.participants c.args.plan.now.crashes c.args.watch.now) c.args.updates.items c.args.watch.now c.loop-update.invariant.since.0 (into_iter_items c.next.new.self) c.loop-update.watch c.next_report.new.watch c.loop-update.reached c.in-Ok.next c.in-Some.update
+    set_off_step (g.D.EngineDefinition.peer_of c.args.plan.now.engine) g.D.State.ProcessedHeight.height_of c.args.plan.now.participants c.args.plan.now.crashes (Finds (λ x. (goal.FinalizationProperty-dyn g (x.vtable, x.value)).finalization_complaint x.value) c.args.plan.now.finalization_property g.D.State.ProcessedHeight.height_of g.D.State.ProcessedHeight.bytes_of (λ x. (goal.ExitCondition-dyn g (x.vtable, x.value)).exit_verdict x.value) c.args.plan.now.exit_condition c.args.plan.now.required_finalizations c.args.plan.now.participants c.args.plan.now.crashes c.args.watch.now) c.args.updates.items c.args.watch.now c.loop-update.invariant.since.0 (into_iter_items c.next.new.self) c.loop-update.watch c.next_report.new.watch c.loop-update.reached c.in-Ok.next c.in-Some.update
         c.args.agenda.now c.loop-update.agenda c.next_report.new.agenda c.args.world.now c.loop-update.world c.next_report.new.world
         c.loop-update.invariant.since.1 c.in-Ok.ensures.updates c.loop-update.invariant.since.4 (λ e. (c.in-Ok.ensures.started e).0)
         (some_map c.in-Ok.next (λ r at. at.1) c.in-Ok.ensures.met)
-        (strikes_on (g.D.EngineDefinition.peer_of c.args.plan.now.engine) g.D.State.ProcessedHeight.height_of c.args.plan.now.participants c.args.plan.now.crashes _ _ _ _ _ _ c.loop-update.reached
+        (sets_off_on (g.D.EngineDefinition.peer_of c.args.plan.now.engine) g.D.State.ProcessedHeight.height_of c.args.plan.now.participants c.args.plan.now.crashes _ _ _ _ _ _ c.loop-update.reached
         (λ w finds. finds_on (λ x. (goal.FinalizationProperty-dyn g (x.vtable, x.value)).finalization_complaint x.value) c.args.plan.now.finalization_property g.D.State.ProcessedHeight.height_of g.D.State.ProcessedHeight.bytes_of (λ x. (goal.ExitCondition-dyn g (x.vtable, x.value)).exit_verdict x.value) c.args.plan.now.exit_condition c.args.plan.now.required_finalizations c.args.plan.now.participants c.args.plan.now.crashes c.loop-update.watch (c.in-Some.update ∷ []) c.args.watch.now c.args.updates.items c.loop-update.invariant.since.0 (into_iter_items c.next.new.self) c.in-Some.update (is_some c.in-Ok.next) w c.loop-update.invariant.since.1 refl
         (sym c.loop-update.invariant.since.2 ∙ ap (λ us. c.loop-update.invariant.since.0 ++ us) c.in-Some.ensures.steps.0) finds)
-        c.in-Ok.ensures.strikes),
+        c.in-Ok.ensures.sets_off),
   );
   updates =
       updates_more c.loop-update.watch c.next_report.new.watch c.args.watch.now c.args.updates.items (into_iter_items c.loop-update.update-iterator) (into_iter_items c.next.new.self) c.in-Some.update
@@ -65,7 +65,7 @@ loop-update-preserved g c = record {
         upto = refl;
         made = c.loop-update.agenda;
         world = c.loop-update.world;
-        struck = subst (λ o. Struck (g.D.EngineDefinition.peer_of c.args.plan.now.engine) g.D.State.ProcessedHeight.height_of c.args.plan.now.participants c.args.plan.now.crashes (Finds (λ x. (goal.FinalizationProperty-dyn g (x.vtable, x.value)).finalization_complaint x.value) c.args.plan.now.finalization_property g.D.State.ProcessedHeight.height_of g.D.State.ProcessedHeight.bytes_of (λ x. (goal.ExitCondition-dyn g (x.vtable, x.value)).exit_verdict x.value) c.args.plan.now.exit_condition c.args.plan.now.required_finalizations c.args.plan.now.participants c.args.plan.now.crashes c.args.watch.now) c.args.updates.items (is_some o) (striking c.args.watch.now c.loop-update.invariant.since.0 o) c.args.agenda.now c.loop-update.agenda c.args.world.now c.loop-update.world) none c.loop-update.invariant.since.4;
+        set_off = subst (λ o. SetsOffEach (g.D.EngineDefinition.peer_of c.args.plan.now.engine) g.D.State.ProcessedHeight.height_of c.args.plan.now.participants c.args.plan.now.crashes (Finds (λ x. (goal.FinalizationProperty-dyn g (x.vtable, x.value)).finalization_complaint x.value) c.args.plan.now.finalization_property g.D.State.ProcessedHeight.height_of g.D.State.ProcessedHeight.bytes_of (λ x. (goal.ExitCondition-dyn g (x.vtable, x.value)).exit_verdict x.value) c.args.plan.now.exit_condition c.args.plan.now.required_finalizations c.args.plan.now.participants c.args.plan.now.crashes c.args.watch.now) c.args.updates.items (is_some o) (count_setting_off c.args.watch.now c.loop-update.invariant.since.0 o) c.args.agenda.now c.loop-update.agenda c.args.world.now c.loop-update.world) none c.loop-update.invariant.since.4;
         are = refl;
       })
       c.loop-update.invariant.seen (some_map c.in-Ok.next (λ r at. at.1) c.in-Ok.ensures.met) c.in-Ok.ensures.states;
@@ -88,7 +88,7 @@ returns-in-Err-clause-comes g c =
           tt c.loop-update.invariant.since.2 c.in-Some.ensures.steps.0;
       made = c.loop-update.agenda;
       world = c.loop-update.world;
-      struck = subst (λ o. Struck (g.D.EngineDefinition.peer_of c.args.plan.now.engine) g.D.State.ProcessedHeight.height_of c.args.plan.now.participants c.args.plan.now.crashes (Finds (λ x. (goal.FinalizationProperty-dyn g (x.vtable, x.value)).finalization_complaint x.value) c.args.plan.now.finalization_property g.D.State.ProcessedHeight.height_of g.D.State.ProcessedHeight.bytes_of (λ x. (goal.ExitCondition-dyn g (x.vtable, x.value)).exit_verdict x.value) c.args.plan.now.exit_condition c.args.plan.now.required_finalizations c.args.plan.now.participants c.args.plan.now.crashes c.args.watch.now) c.args.updates.items (is_some o) (striking c.args.watch.now done o) c.args.agenda.now c.loop-update.agenda c.args.world.now c.loop-update.world) skips.0 c.loop-update.invariant.since.4;
+      set_off = subst (λ o. SetsOffEach (g.D.EngineDefinition.peer_of c.args.plan.now.engine) g.D.State.ProcessedHeight.height_of c.args.plan.now.participants c.args.plan.now.crashes (Finds (λ x. (goal.FinalizationProperty-dyn g (x.vtable, x.value)).finalization_complaint x.value) c.args.plan.now.finalization_property g.D.State.ProcessedHeight.height_of g.D.State.ProcessedHeight.bytes_of (λ x. (goal.ExitCondition-dyn g (x.vtable, x.value)).exit_verdict x.value) c.args.plan.now.exit_condition c.args.plan.now.required_finalizations c.args.plan.now.participants c.args.plan.now.crashes c.args.watch.now) c.args.updates.items (is_some o) (count_setting_off c.args.watch.now done o) c.args.agenda.now c.loop-update.agenda c.args.world.now c.loop-update.world) skips.0 c.loop-update.invariant.since.4;
       skips = skips.1;
     })
     c.in-Err.stop c.in-Err.ensures.comes
@@ -105,7 +105,7 @@ returns-in-Err-clause-answered g c =
       upto = ap (λ us. done ++ us) one;
       made = c.loop-update.agenda;
       world = c.loop-update.world;
-      struck = subst (λ o. Struck peer_of g.D.State.ProcessedHeight.height_of c.args.plan.now.participants c.args.plan.now.crashes (Finds (λ x. (goal.FinalizationProperty-dyn g (x.vtable, x.value)).finalization_complaint x.value) c.args.plan.now.finalization_property g.D.State.ProcessedHeight.height_of g.D.State.ProcessedHeight.bytes_of (λ x. (goal.ExitCondition-dyn g (x.vtable, x.value)).exit_verdict x.value) c.args.plan.now.exit_condition c.args.plan.now.required_finalizations c.args.plan.now.participants c.args.plan.now.crashes c.args.watch.now) c.args.updates.items (is_some o) (striking c.args.watch.now done o) c.args.agenda.now c.loop-update.agenda c.args.world.now c.loop-update.world) none c.loop-update.invariant.since.4;
+      set_off = subst (λ o. SetsOffEach peer_of g.D.State.ProcessedHeight.height_of c.args.plan.now.participants c.args.plan.now.crashes (Finds (λ x. (goal.FinalizationProperty-dyn g (x.vtable, x.value)).finalization_complaint x.value) c.args.plan.now.finalization_property g.D.State.ProcessedHeight.height_of g.D.State.ProcessedHeight.bytes_of (λ x. (goal.ExitCondition-dyn g (x.vtable, x.value)).exit_verdict x.value) c.args.plan.now.exit_condition c.args.plan.now.required_finalizations c.args.plan.now.participants c.args.plan.now.crashes c.args.watch.now) c.args.updates.items (is_some o) (count_setting_off c.args.watch.now done o) c.args.agenda.now c.loop-update.agenda c.args.world.now c.loop-update.world) none c.loop-update.invariant.since.4;
       are = views;
     } in
     stop_answered_since (λ x. (goal.FinalizationProperty-dyn g (x.vtable, x.value)).finalization_name x.value) (λ x. (goal.FinalizationProperty-dyn g (x.vtable, x.value)).finalization_complaint x.value) (λ x. (goal.Property-dyn g (x.vtable, x.value)).property_name x.value) (λ x. (goal.Property-dyn g (x.vtable, x.value)).property_complaint x.value) (λ x. (goal.ExitCondition-dyn g (x.vtable, x.value)).exit_name x.value) (λ x. (goal.ExitCondition-dyn g (x.vtable, x.value)).exit_verdict x.value) c.args.plan.now.finalization_property c.args.plan.now.property c.args.plan.now.exit_condition _ _ (λ m v. ⊥) _ _ (λ m v. ⊥)
@@ -124,9 +124,9 @@ returns-clause-started g c =
     c.loop-update.invariant.since.3
     ∙ ap (λ us. started_by c.args.plan.now.participants c.args.plan.now.crashes c.args.watch.now c.args.world.now.exercise.delayed_started us c.loop-update.reached) (sym (append-nil done) ∙ ap (λ us. done ++ us) (sym none) ∙ c.loop-update.invariant.since.2)
 
-pub returns-clause-struck : goal.returns-clause-struck
-returns-clause-struck g c =
+pub returns-clause-set_off : goal.returns-clause-set_off
+returns-clause-set_off g c =
     let done = c.loop-update.invariant.since.0 in
     let none : into_iter_items c.loop-update.update-iterator ≡ [] = grind (arith, common_steps) in
     let whole = sym (append-nil done) ∙ ap (λ us. done ++ us) (sym none) ∙ c.loop-update.invariant.since.2 in
-    subst (λ us. Struck (g.D.EngineDefinition.peer_of c.args.plan.now.engine) g.D.State.ProcessedHeight.height_of c.args.plan.now.participants c.args.plan.now.crashes (Finds (λ x. (goal.FinalizationProperty-dyn g (x.vtable, x.value)).finalization_complaint x.value) c.args.plan.now.finalization_property g.D.State.ProcessedHeight.height_of g.D.State.ProcessedHeight.bytes_of (λ x. (goal.ExitCondition-dyn g (x.vtable, x.value)).exit_verdict x.value) c.args.plan.now.exit_condition c.args.plan.now.required_finalizations c.args.plan.now.participants c.args.plan.now.crashes c.args.watch.now) c.args.updates.items (is_some c.loop-update.reached) (striking c.args.watch.now us c.loop-update.reached) c.args.agenda.now c.loop-update.agenda c.args.world.now c.loop-update.world) whole c.loop-update.invariant.since.4
+    subst (λ us. SetsOffEach (g.D.EngineDefinition.peer_of c.args.plan.now.engine) g.D.State.ProcessedHeight.height_of c.args.plan.now.participants c.args.plan.now.crashes (Finds (λ x. (goal.FinalizationProperty-dyn g (x.vtable, x.value)).finalization_complaint x.value) c.args.plan.now.finalization_property g.D.State.ProcessedHeight.height_of g.D.State.ProcessedHeight.bytes_of (λ x. (goal.ExitCondition-dyn g (x.vtable, x.value)).exit_verdict x.value) c.args.plan.now.exit_condition c.args.plan.now.required_finalizations c.args.plan.now.participants c.args.plan.now.crashes c.args.watch.now) c.args.updates.items (is_some c.loop-update.reached) (count_setting_off c.args.watch.now us c.loop-update.reached) c.args.agenda.now c.loop-update.agenda c.args.world.now c.loop-update.world) whole c.loop-update.invariant.since.4

@@ -1,7 +1,7 @@
 use Rattle.std.proofs.Common.{◌≡◌, ◌<◌, length, arith}
 use Rattle.simulate_parts.specs.Seats.{active_peers}
 use Rattle.ledger_simulate.specs.Failures.{picked}
-use Rattle.ledger_simulate.proofs.Striking.{picked_all, picked_out, picked_push}
+use Rattle.ledger_simulate.proofs.SettingOff.{picked_all, picked_out, picked_push}
 use Rattle.ledger_simulate.proofs.world.victims.Goals.{else-loop-test, then-loop-test+then-len-eq0}
 use Rattle.ledger_simulate.proofs.world.victims.Goals as goal
 

@@ -1,14 +1,14 @@
 use Rattle.std.proofs.Common.{◌∙◌}
 use Rattle.ledger_simulate.specs.Failures.{standing_of}
-use Rattle.ledger_simulate.proofs.Stirring.{disturbs_then}
-use Rattle.ledger_simulate.proofs.Striking.{passed_here, passed_more, passed_none, windows_all, windows_more}
+use Rattle.ledger_simulate.proofs.Changing.{changes_alone_then}
+use Rattle.ledger_simulate.proofs.SettingOff.{passed_here, passed_more, passed_none, windows_all, windows_more}
 use Rattle.ledger_simulate.proofs.world.World.enter_windows.Goals as goal
 
 pub loop-index-preserved : goal.loop-index-preserved
 loop-index-preserved g c = record {
-  disturbs =
-      disturbs_then (g.D.EngineDefinition.peer_of c.args.plan.now.engine) c.args.agenda.now c.loop-index.agenda c.look_at.new.agenda c.args.self.now c.loop-index.self c.look_at.new.self
-      c.loop-index.invariant.disturbs (c.in-Ok.ensures.disturbs (g.D.EngineDefinition.peer_of c.args.plan.now.engine));
+  changes_alone =
+      changes_alone_then (g.D.EngineDefinition.peer_of c.args.plan.now.engine) c.args.agenda.now c.loop-index.agenda c.look_at.new.agenda c.args.self.now c.loop-index.self c.look_at.new.self
+      c.loop-index.invariant.changes_alone (c.in-Ok.ensures.changes_alone (g.D.EngineDefinition.peer_of c.args.plan.now.engine));
   standing =
       windows_more g.D.State.ProcessedHeight.height_of c.args.plan.now.crashes c.as_slice-crash-items.result.now c.loop-index.index c.as_slice-crash-items.ensures c.crash-item.result (standing_of c.args.self.now) (standing_of c.loop-index.self) (standing_of c.look_at.new.self)
       c.loop-index-test.true c.crash-item.is c.loop-index.invariant.standing c.in-Ok.ensures.standing;

@@ -6,7 +6,7 @@ use Rattle.std.proofs.lemmas.List.{append-nil}
 use Rattle.std.proofs.lemmas.List.Elements.{All-contains}
 use Rattle.simulate_parts.specs.Engine.{Passes, updates_of}
 use Rattle.ledger_simulate.specs.Causes.{SkipsAmong}
-use Rattle.ledger_simulate.specs.Handling.{Struck, number_after, striking}
+use Rattle.ledger_simulate.specs.Handling.{SetsOffEach, number_after, count_setting_off}
 use Rattle.ledger_simulate.proofs.Causing.{if_err_map, stop_since}
 use Rattle.ledger_simulate.proofs.Engines.{passes_step}
 use Rattle.ledger_simulate.proofs.Turning.{in_turn}
@@ -15,14 +15,14 @@ use Rattle.ledger_simulate.specs.Answering.{Sees, SeesAfter, Took}
 use Rattle.ledger_simulate.proofs.Answering.{if_answered_wider}
 use Rattle.ledger_simulate.proofs.Delaying.{if_ok_some_map, if_ok_with, started_rests, started_turns}
 use Rattle.ledger_simulate.specs.Runs.{Finds}
-use Rattle.ledger_simulate.proofs.simulation.step_at.Goals as goal
+use Rattle.ledger_simulate.proofs.handling.step_at.Goals as goal
 
 pub returns-in-Ok-clause-told : goal.returns-in-Ok-clause-told
 returns-in-Ok-clause-told g c =
     let engine = c.args.plan.now.engine in
     let given = c.in-Ok.ensures in
     if_ok_with c.take_reports.result
-    (λ grown o struck.
+    (λ grown o set_off.
     tells_by (g.D.EngineDefinition.peer_of engine) (g.D.EngineDefinition.journal engine) (g.D.EngineDefinition.reports engine) g.D.State.ProcessedHeight.height_of c.args.plan.now.participants c.args.plan.now.crashes (Finds (λ x. (goal.FinalizationProperty-dyn g (x.vtable, x.value)).finalization_complaint x.value) c.args.plan.now.finalization_property g.D.State.ProcessedHeight.height_of g.D.State.ProcessedHeight.bytes_of (λ x. (goal.ExitCondition-dyn g (x.vtable, x.value)).exit_verdict x.value) c.args.plan.now.exit_condition c.args.plan.now.required_finalizations c.args.plan.now.participants c.args.plan.now.crashes c.args.watch.now) o c.args.told.pk c.in-Some.birth c.args.told.event
     c.args.agenda.now c.take_reports.new.agenda c.args.watch.now c.take_reports.new.watch c.args.world.now c.take_reports.new.world _ (sym c.addressed.ensures ∙ c.in-Some.is)
     (record {
@@ -31,10 +31,10 @@ returns-in-Ok-clause-told g c =
       mid = c.step_and_send.new.world;
       gives = given.1;
       reported = grown ∙ ap (λ xs. c.args.watch.now ++ xs) given.2;
-      struck =
-          subst (λ us. Struck (g.D.EngineDefinition.peer_of engine) g.D.State.ProcessedHeight.height_of c.args.plan.now.participants c.args.plan.now.crashes (Finds (λ x. (goal.FinalizationProperty-dyn g (x.vtable, x.value)).finalization_complaint x.value) c.args.plan.now.finalization_property g.D.State.ProcessedHeight.height_of g.D.State.ProcessedHeight.bytes_of (λ x. (goal.ExitCondition-dyn g (x.vtable, x.value)).exit_verdict x.value) c.args.plan.now.exit_condition c.args.plan.now.required_finalizations c.args.plan.now.participants c.args.plan.now.crashes c.args.watch.now) us (is_some o) (striking c.args.watch.now us o) c.step_and_send.new.agenda c.take_reports.new.agenda c.step_and_send.new.world c.take_reports.new.world) given.2 struck;
+      set_off =
+          subst (λ us. SetsOffEach (g.D.EngineDefinition.peer_of engine) g.D.State.ProcessedHeight.height_of c.args.plan.now.participants c.args.plan.now.crashes (Finds (λ x. (goal.FinalizationProperty-dyn g (x.vtable, x.value)).finalization_complaint x.value) c.args.plan.now.finalization_property g.D.State.ProcessedHeight.height_of g.D.State.ProcessedHeight.bytes_of (λ x. (goal.ExitCondition-dyn g (x.vtable, x.value)).exit_verdict x.value) c.args.plan.now.exit_condition c.args.plan.now.required_finalizations c.args.plan.now.participants c.args.plan.now.crashes c.args.watch.now) us (is_some o) (count_setting_off c.args.watch.now us o) c.step_and_send.new.agenda c.take_reports.new.agenda c.step_and_send.new.world c.take_reports.new.world) given.2 set_off;
     }))
-    c.take_reports.ensures.updates c.take_reports.ensures.struck
+    c.take_reports.ensures.updates c.take_reports.ensures.set_off
 
 pub returns-in-Ok-clause-comes : goal.returns-in-Ok-clause-comes
 returns-in-Ok-clause-comes g c =

@@ -5,15 +5,15 @@ use Rattle.ledger_simulate.specs.Reaching.{ExitIs}
 use Rattle.ledger_simulate.specs.Plans.{target_count}
 use Rattle.ledger_simulate.specs.declared.event.Event.TheVariants.{ExitPoll}
 use Rattle.ledger_simulate.proofs.Results.{on_any}
-use Rattle.ledger_simulate.proofs.Stirring.{adds_one, stirs_still}
+use Rattle.ledger_simulate.proofs.Changing.{adds_one, changes_still}
 use Rattle.ledger_simulate.proofs.Answering.{if_answered_fails}
 use Rattle.ledger_simulate.proofs.Delaying.{if_ok_some_both}
-use Rattle.ledger_simulate.proofs.simulation.poll.Goals as goal
+use Rattle.ledger_simulate.proofs.handling.poll.Goals as goal
 
-pub returns-in-Ok-clause-stirs : goal.returns-in-Ok-clause-stirs
-returns-in-Ok-clause-stirs g c =
+pub returns-in-Ok-clause-changes : goal.returns-in-Ok-clause-changes
+returns-in-Ok-clause-changes g c =
     on_any c.ask.result
-    (stirs_still (g.D.EngineDefinition.peer_of c.args.plan.now.engine) c.args.agenda.now c.polled_states.new.agenda c.args.world.now c.args.world.now
+    (changes_still (g.D.EngineDefinition.peer_of c.args.plan.now.engine) c.args.agenda.now c.polled_states.new.agenda c.args.world.now c.args.world.now
     (adds_one c.args.agenda.now c.polled_states.new.agenda (25, ExitPoll) c.in-Ok.ensures.made refl) refl refl)
 
 pub returns-in-Ok-clause-answered : goal.returns-in-Ok-clause-answered

@@ -1,7 +1,7 @@
 use Rattle.ledger_simulate.proofs.Proceeding.{handles_act, handles_poll, handles_recover, handles_tick, handles_told}
 use Rattle.std.proofs.Common.{◌≡◌, [], IfErr, Bool, Option, Some, false, ap, inl, inr, length, ℕ, ◌+◌, arith, refl, subst, sym, ◌∙◌}
 use Rattle.ledger_simulate.specs.Answering.{Asks, ReportsThen, SeesAfter, SkipsAfter, StopAnswered}
-use Rattle.ledger_simulate.specs.declared.simulation.Told.{Told}
+use Rattle.ledger_simulate.specs.declared.handling.Told.{Told}
 use Rattle.ledger_simulate.proofs.Answering.{if_answered_wider}
 use Rattle.ledger_simulate.proofs.Delaying.{if_ok_any, if_ok_no, if_ok_some_map, if_ok_of, if_ok_of_both, if_ok_with, started_rests, target_none}
 use Rattle.ledger_simulate.specs.Causes.{StopComes}
@@ -11,43 +11,43 @@ use Rattle.ledger_simulate.specs.Handling.{is_poll, told_by}
 use Rattle.ledger_simulate.specs.Failures.{tally_of}
 use Rattle.ledger_simulate.proofs.Causing.{if_err_map, stop_asked, stop_short}
 use Rattle.ledger_simulate.specs.Runs.{Finds}
-use Rattle.ledger_simulate.proofs.simulation.handle.Goals as goal
+use Rattle.ledger_simulate.proofs.handling.handle.Goals as goal
 
 pub returns-in-ExitPoll-clause-handled : goal.returns-in-ExitPoll-clause-handled
 returns-in-ExitPoll-clause-handled g c =
     let engine = c.args.plan.now.engine in
     if_ok_with c.poll.result
-    (λ stirs o at.
+    (λ changes o at.
     handles_poll (g.D.EngineDefinition.peer_of engine) (g.D.EngineDefinition.journal engine) (g.D.EngineDefinition.reports engine) g.D.State.ProcessedHeight.height_of c.args.plan.now.participants c.args.plan.now.crashes (Finds (λ x. (goal.FinalizationProperty-dyn g (x.vtable, x.value)).finalization_complaint x.value) c.args.plan.now.finalization_property g.D.State.ProcessedHeight.height_of g.D.State.ProcessedHeight.bytes_of (λ x. (goal.ExitCondition-dyn g (x.vtable, x.value)).exit_verdict x.value) c.args.plan.now.exit_condition c.args.plan.now.required_finalizations c.args.plan.now.participants c.args.plan.now.crashes c.args.watch.now) o c.args.key c.args.event c.args.agenda.now c.poll.new.agenda
-    c.args.watch.now c.args.world.now c.args.world.now c.in-ExitPoll.is stirs refl)
-    c.poll.ensures.stirs c.poll.ensures.reached
+    c.args.watch.now c.args.world.now c.args.world.now c.in-ExitPoll.is changes refl)
+    c.poll.ensures.changes c.poll.ensures.reached
 
 pub returns-in-Act-clause-handled : goal.returns-in-Act-clause-handled
 returns-in-Act-clause-handled g c =
     let engine = c.args.plan.now.engine in
     if_ok_of_both c.unless_short.result c.act.result tt
-    (λ stirs tally o.
+    (λ changes tally o.
     handles_act (g.D.EngineDefinition.peer_of engine) (g.D.EngineDefinition.journal engine) (g.D.EngineDefinition.reports engine) g.D.State.ProcessedHeight.height_of c.args.plan.now.participants c.args.plan.now.crashes (Finds (λ x. (goal.FinalizationProperty-dyn g (x.vtable, x.value)).finalization_complaint x.value) c.args.plan.now.finalization_property g.D.State.ProcessedHeight.height_of g.D.State.ProcessedHeight.bytes_of (λ x. (goal.ExitCondition-dyn g (x.vtable, x.value)).exit_verdict x.value) c.args.plan.now.exit_condition c.args.plan.now.required_finalizations c.args.plan.now.participants c.args.plan.now.crashes c.args.watch.now) o c.args.key c.args.event c.in-Act.action c.args.agenda.now c.act.new.agenda
-    c.args.watch.now c.args.world.now c.act.new.self c.in-Act.is stirs tally)
-    c.unless_short.ensures.on c.act.ensures.stirs c.act.ensures.tally
+    c.args.watch.now c.args.world.now c.act.new.self c.in-Act.is changes tally)
+    c.unless_short.ensures.on c.act.ensures.changes c.act.ensures.tally
 
 pub returns-in-CrashTick-clause-handled : goal.returns-in-CrashTick-clause-handled
 returns-in-CrashTick-clause-handled g c =
     let engine = c.args.plan.now.engine in
     if_ok_of_both c.unless_short-in-CrashTick.result c.crash_at_random.result tt
-    (λ stirs tally o.
+    (λ changes tally o.
     handles_tick (g.D.EngineDefinition.peer_of engine) (g.D.EngineDefinition.journal engine) (g.D.EngineDefinition.reports engine) g.D.State.ProcessedHeight.height_of c.args.plan.now.participants c.args.plan.now.crashes (Finds (λ x. (goal.FinalizationProperty-dyn g (x.vtable, x.value)).finalization_complaint x.value) c.args.plan.now.finalization_property g.D.State.ProcessedHeight.height_of g.D.State.ProcessedHeight.bytes_of (λ x. (goal.ExitCondition-dyn g (x.vtable, x.value)).exit_verdict x.value) c.args.plan.now.exit_condition c.args.plan.now.required_finalizations c.args.plan.now.participants c.args.plan.now.crashes c.args.watch.now) o c.args.key c.args.event c.args.agenda.now c.crash_at_random.new.agenda
-    c.args.watch.now c.args.world.now c.crash_at_random.new.self c.in-CrashTick.is stirs tally)
-    c.unless_short-in-CrashTick.ensures.on c.crash_at_random.ensures.stirs c.crash_at_random.ensures.tally
+    c.args.watch.now c.args.world.now c.crash_at_random.new.self c.in-CrashTick.is changes tally)
+    c.unless_short-in-CrashTick.ensures.on c.crash_at_random.ensures.changes c.crash_at_random.ensures.tally
 
 pub returns-in-Recover-clause-handled : goal.returns-in-Recover-clause-handled
 returns-in-Recover-clause-handled g c =
     let engine = c.args.plan.now.engine in
     if_ok_of_both c.unless_short-in-Recover.result c.relaunch.result tt
-    (λ disturbs kept o.
+    (λ changes_alone kept o.
     handles_recover (g.D.EngineDefinition.peer_of engine) (g.D.EngineDefinition.journal engine) (g.D.EngineDefinition.reports engine) g.D.State.ProcessedHeight.height_of c.args.plan.now.participants c.args.plan.now.crashes (Finds (λ x. (goal.FinalizationProperty-dyn g (x.vtable, x.value)).finalization_complaint x.value) c.args.plan.now.finalization_property g.D.State.ProcessedHeight.height_of g.D.State.ProcessedHeight.bytes_of (λ x. (goal.ExitCondition-dyn g (x.vtable, x.value)).exit_verdict x.value) c.args.plan.now.exit_condition c.args.plan.now.required_finalizations c.args.plan.now.participants c.args.plan.now.crashes c.args.watch.now) o c.args.key c.args.event c.in-Recover.pk c.args.agenda.now c.relaunch.new.agenda
-    c.args.watch.now c.args.world.now c.relaunch.new.self c.in-Recover.is disturbs.stirs (ap tally_of kept))
-    c.unless_short-in-Recover.ensures.on c.relaunch.ensures.disturbs c.relaunch.ensures.exercise
+    c.args.watch.now c.args.world.now c.relaunch.new.self c.in-Recover.is changes_alone.changes (ap tally_of kept))
+    c.unless_short-in-Recover.ensures.on c.relaunch.ensures.changes_alone c.relaunch.ensures.exercise
 
 pub returns-in-Started-clause-handled : goal.returns-in-Started-clause-handled
 returns-in-Started-clause-handled g c =

@@ -8,7 +8,7 @@ use Rattle.simulate_parts.specs.declared.engine.StepEvent.{StepEvent}
 use Rattle.simulate_parts.specs.declared.engine.StepOut.{StepOut}
 use Rattle.simulate_parts.specs.declared.peer.Peer.{Peer}
 use Rattle.simulate_parts.specs.declared.seats.Start.{Start}
-use Rattle.ledger_simulate.specs.Handling.{Adds, Disturbs, Seated, Stirs, Survives, is_quiet, number_after}
+use Rattle.ledger_simulate.specs.Handling.{Adds, ChangesEnginesAlone, Seated, ChangesEngines, Survives, is_quiet, number_after}
 use Rattle.ledger_simulate.specs.Queue.{AgendaView}
 use Rattle.ledger_simulate.specs.declared.event.Event.{Event}
 use Rattle.ledger_simulate.specs.declared.world.World.{World}
@@ -49,40 +49,40 @@ number_up a b adds =
 
 module _ {D E S : Type 0} (peer_of : E → Peer) where
   -- no engine was touched
-  pub stirs_still : (a b : AgendaView) (u v : World D E S) → Adds a b → v.seats.entries ≡ u.seats.entries → v.rules ≡ u.rules → Stirs peer_of a b u v
-  stirs_still a b u v adds seats rules = record {
+  pub changes_still : (a b : AgendaView) (u v : World D E S) → Adds a b → v.seats.entries ≡ u.seats.entries → v.rules ≡ u.rules → ChangesEngines peer_of a b u v
+  changes_still a b u v adds seats rules = record {
     adds = adds;
     kept = λ q r at below. subst (λ ss. running_at ss q ≡ Some r) seats at;
     seated = λ seated. subst (Seated peer_of (number_after b)) (sym seats) (seated_up peer_of (number_after a) (number_after b) u.seats.entries (number_up a b adds) seated);
     rules = rules;
   }
 
-  pub stirs_then : (a b c : AgendaView) (u v w : World D E S) → Stirs peer_of a b u v → Stirs peer_of b c v w → Stirs peer_of a c u w
-  stirs_then a b c u v w first second = record {
+  pub changes_then : (a b c : AgendaView) (u v w : World D E S) → ChangesEngines peer_of a b u v → ChangesEngines peer_of b c v w → ChangesEngines peer_of a c u w
+  changes_then a b c u v w first second = record {
     adds = adds_then a b c first.adds second.adds;
     kept = λ q r at below. first.kept q r (second.kept q r at (subst (λ n. r.birth < n) (sym first.adds.next) below)) below;
     seated = λ seated. second.seated (first.seated seated);
     rules = second.rules ∙ first.rules;
   }
 
-  pub disturbs_still : (a b : AgendaView) (u v : World D E S) → Adds a b → v.seats.entries ≡ u.seats.entries → v.rules ≡ u.rules → v.words ≡ u.words → v.links ≡ u.links → Disturbs peer_of a b u v
-  disturbs_still a b u v adds seats rules words links = record { stirs = stirs_still a b u v adds seats rules; words = words; links = links }
+  pub changes_alone_still : (a b : AgendaView) (u v : World D E S) → Adds a b → v.seats.entries ≡ u.seats.entries → v.rules ≡ u.rules → v.words ≡ u.words → v.links ≡ u.links → ChangesEnginesAlone peer_of a b u v
+  changes_alone_still a b u v adds seats rules words links = record { changes = changes_still a b u v adds seats rules; words = words; links = links }
 
   -- nothing happened
-  pub disturbs_none : (a : AgendaView) (u : World D E S) → Disturbs peer_of a a u u
-  disturbs_none a u = disturbs_still a a u u (adds_none a a refl) refl refl refl refl
+  pub changes_alone_none : (a : AgendaView) (u : World D E S) → ChangesEnginesAlone peer_of a a u u
+  changes_alone_none a u = changes_alone_still a a u u (adds_none a a refl) refl refl refl refl
 
-  pub disturbs_then : (a b c : AgendaView) (u v w : World D E S) → Disturbs peer_of a b u v → Disturbs peer_of b c v w → Disturbs peer_of a c u w
-  disturbs_then a b c u v w first second = record {
-    stirs = stirs_then a b c u v w first.stirs second.stirs;
+  pub changes_alone_then : (a b c : AgendaView) (u v w : World D E S) → ChangesEnginesAlone peer_of a b u v → ChangesEnginesAlone peer_of b c v w → ChangesEnginesAlone peer_of a c u w
+  changes_alone_then a b c u v w first second = record {
+    changes = changes_then a b c u v w first.changes second.changes;
     words = second.words ∙ first.words;
     links = second.links ∙ first.links;
   }
 
   -- a peer was stopped
-  pub disturbs_stop : (a b : AgendaView) (u v : World D E S) (pk : Peer) → Adds a b → v.seats.entries ≡ stopped u.seats.entries pk → v.rules ≡ u.rules → v.words ≡ u.words → v.links ≡ u.links → Disturbs peer_of a b u v
-  disturbs_stop a b u v pk adds seats rules words links = record {
-    stirs = record {
+  pub changes_alone_stop : (a b : AgendaView) (u v : World D E S) (pk : Peer) → Adds a b → v.seats.entries ≡ stopped u.seats.entries pk → v.rules ≡ u.rules → v.words ≡ u.words → v.links ≡ u.links → ChangesEnginesAlone peer_of a b u v
+  changes_alone_stop a b u v pk adds seats rules words links = record {
+    changes = record {
       adds = adds;
       kept = subst (Survives a.next u.seats.entries) (sym seats) (survives_stop a.next u.seats.entries pk);
       seated = λ seated. subst (Seated peer_of (number_after b)) (sym seats)
@@ -94,15 +94,15 @@ module _ {D E S : Type 0} (peer_of : E → Peer) where
   }
 
   -- a peer was started under the number of the event that was made
-  pub disturbs_start : (made : InitContext → E × S → Type 0) (journal : Option (E → List (StepEvent × StepOut))) (participants : List Peer) (start : Start) (a b : AgendaView) (e : ℕ × Event) (u v : World D E S) → Starts peer_of made journal participants start u.seats.entries v.seats.entries → start.birth ≡ number_after a → b ≡ record a { events = a.events ++ e ∷ [] } → IsTrue (is_quiet e.1) → v.rules ≡ u.rules → v.words ≡ u.words → v.links ≡ u.links → Disturbs peer_of a b u v
-  disturbs_start made journal participants start a b e u v started birth put quiet rules words links =
+  pub changes_alone_start : (made : InitContext → E × S → Type 0) (journal : Option (E → List (StepEvent × StepOut))) (participants : List Peer) (start : Start) (a b : AgendaView) (e : ℕ × Event) (u v : World D E S) → Starts peer_of made journal participants start u.seats.entries v.seats.entries → start.birth ≡ number_after a → b ≡ record a { events = a.events ++ e ∷ [] } → IsTrue (is_quiet e.1) → v.rules ≡ u.rules → v.words ≡ u.words → v.links ≡ u.links → ChangesEnginesAlone peer_of a b u v
+  changes_alone_start made journal participants start a b e u v started birth put quiet rules words links =
       let long : length b.events ≡ length a.events + 1 = ap (λ (x : AgendaView). length x.events) put ∙ length-append a.events (e ∷ []) in
       let next : b.next ≡ a.next = ap (λ (x : AgendaView). x.next) put in
       let above : a.next ≤ start.birth = omega arith in
       let inside : start.birth < number_after b = omega arith in
       let up : number_after a ≤ number_after b = omega arith in
       record {
-        stirs = record {
+        changes = record {
           adds = adds_one a b e put quiet;
           kept = survives_start peer_of made journal participants start a.next u.seats.entries v.seats.entries started above;
           seated = seated_start peer_of made journal participants start (number_after a) (number_after b) u.seats.entries v.seats.entries started inside up;
@@ -113,13 +113,13 @@ module _ {D E S : Type 0} (peer_of : E → Peer) where
       }
 
   -- beside changes that touch no engine
-  pub stirs_from : (a b : AgendaView) (u w v : World D E S) → w.seats.entries ≡ u.seats.entries → w.rules ≡ u.rules → Stirs peer_of a b w v → Stirs peer_of a b u v
-  stirs_from a b u w v seats rules stirs = stirs_then a a b u w v (stirs_still a a u w (adds_none a a refl) seats rules) stirs
+  pub changes_from : (a b : AgendaView) (u w v : World D E S) → w.seats.entries ≡ u.seats.entries → w.rules ≡ u.rules → ChangesEngines peer_of a b w v → ChangesEngines peer_of a b u v
+  changes_from a b u w v seats rules changes = changes_then a a b u w v (changes_still a a u w (adds_none a a refl) seats rules) changes
 
-  pub disturbs_from : (a b : AgendaView) (u w v : World D E S) → w.seats.entries ≡ u.seats.entries → w.rules ≡ u.rules → w.words ≡ u.words → w.links ≡ u.links → Disturbs peer_of a b w v → Disturbs peer_of a b u v
-  disturbs_from a b u w v seats rules words links disturbs =
-      disturbs_then a a b u w v (disturbs_still a a u w (adds_none a a refl) seats rules words links) disturbs
+  pub changes_alone_from : (a b : AgendaView) (u w v : World D E S) → w.seats.entries ≡ u.seats.entries → w.rules ≡ u.rules → w.words ≡ u.words → w.links ≡ u.links → ChangesEnginesAlone peer_of a b w v → ChangesEnginesAlone peer_of a b u v
+  changes_alone_from a b u w v seats rules words links changes_alone =
+      changes_alone_then a a b u w v (changes_alone_still a a u w (adds_none a a refl) seats rules words links) changes_alone
 
-  pub disturbs_to : (a b : AgendaView) (u v w : World D E S) → w.seats.entries ≡ v.seats.entries → w.rules ≡ v.rules → w.words ≡ v.words → w.links ≡ v.links → Disturbs peer_of a b u v → Disturbs peer_of a b u w
-  disturbs_to a b u v w seats rules words links disturbs =
-      disturbs_then a b b u v w disturbs (disturbs_still b b v w (adds_none b b refl) seats rules words links)
+  pub changes_alone_to : (a b : AgendaView) (u v w : World D E S) → w.seats.entries ≡ v.seats.entries → w.rules ≡ v.rules → w.words ≡ v.words → w.links ≡ v.links → ChangesEnginesAlone peer_of a b u v → ChangesEnginesAlone peer_of a b u w
+  changes_alone_to a b u v w seats rules words links changes_alone =
+      changes_alone_then a b b u v w changes_alone (changes_alone_still b b v w (adds_none b b refl) seats rules words links)
