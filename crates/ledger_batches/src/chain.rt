@@ -9,6 +9,7 @@ use crate::writes::Writes;
 use ledger_codec::OutOfMemory;
 use ledger_log::{Family, Key, KeyedFamily, Log, Value};
 use ledger_merkle::Hasher;
+use ledger_transfers::Seeded;
 use std::alloc::Global;
 use std::marker::Model;
 
@@ -68,10 +69,14 @@ fn put_op<F: Family>(writes: &mut Writes, op: &F::Op) -> Result<(), OutOfMemory>
 }
 
 /// What these operations write.
-fn writes_of<F: Family>(alloc: Global, ops: &[F::Op]) -> Result<Writes, OutOfMemory>
+fn writes_of<F: Family>(
+    alloc: Global,
+    hashing: Seeded,
+    ops: &[F::Op],
+) -> Result<Writes, OutOfMemory>
     ensures { IfOk result (λ writes. writes ≡ settled (filter_map F.write_of ops.now)) }
 {
-    let mut writes = Writes::new(alloc);
+    let mut writes = Writes::new(alloc, hashing);
     for op in ops {
         put_op::<F>(&mut writes, op)?;
     }
@@ -79,11 +84,16 @@ fn writes_of<F: Family>(alloc: Global, ops: &[F::Op]) -> Result<Writes, OutOfMem
 }
 
 impl<F: Family> Link<F> {
-    /// A sealed batch of these operations.
-    pub(crate) fn new(alloc: Global, ops: Vec<F::Op>, after: State) -> Result<Link<F>, OutOfMemory>
+    /// A sealed batch of these operations, whose keys are hashed so.
+    pub(crate) fn new(
+        alloc: Global,
+        hashing: Seeded,
+        ops: Vec<F::Op>,
+        after: State,
+    ) -> Result<Link<F>, OutOfMemory>
         ensures { IfOk result (λ link. link ≡ record { ops = ops.items; after = after }) }
     {
-        let writes = writes_of::<F>(alloc, ops.as_slice())?;
+        let writes = writes_of::<F>(alloc, hashing, ops.as_slice())?;
         Ok(Link { ops, writes, after })
     }
 

@@ -11,14 +11,17 @@ use crate::writes::Writes;
 use ledger_codec::OutOfMemory;
 use ledger_log::{Family, Key, KeyedFamily, Log, Value};
 use ledger_merkle::Hasher;
+use ledger_transfers::Seeded;
 use std::alloc::Global;
 use std::marker::Model;
+use std::random::RandomSource;
 
 /// A batch that takes writes. It is read over a database whose size and root are a state of its chain: those
 /// that it was made over, or those after one of its ancestors.
 #[derive(Drop)]
 pub struct Unmerkleized<F: Family> {
     alloc: Global,
+    hashing: Seeded,
     chain: Chain<F>,
     writes: Writes,
     metadata: Option<Value>,
@@ -33,21 +36,27 @@ impl<F: Family> Model for Unmerkleized<F> {
 }
 
 impl<F: Family> Unmerkleized<F> {
-    /// A batch without writes over the database.
-    pub fn over<H: Hasher>(alloc: Global, db: &Log<F, H>) -> Unmerkleized<F>
+    /// A batch without writes over the database. What it keeps by keys is hashed with a fresh seed, which is 0
+    /// where the runtime's source of random bytes fails.
+    pub fn over<R: RandomSource, H: Hasher>(
+        rt: &R,
+        alloc: Global,
+        db: &Log<F, H>,
+    ) -> Unmerkleized<F>
         ensures { result ≡ record { chain = record { base = state_of H.digest F.Op.spelling db.now; links = [] }; writes = []; metadata = None } }
     {
-        Unmerkleized::on(alloc, Chain::new(alloc, state_of(db)))
+        Unmerkleized::on(alloc, Seeded::fresh(rt), Chain::new(alloc, state_of(db)))
     }
 
-    /// A batch without writes over this chain.
-    pub(crate) fn on(alloc: Global, chain: Chain<F>) -> Unmerkleized<F>
+    /// A batch without writes over this chain, which hashes its keys so.
+    pub(crate) fn on(alloc: Global, hashing: Seeded, chain: Chain<F>) -> Unmerkleized<F>
         ensures { result ≡ record { chain = chain; writes = []; metadata = None } }
     {
         Unmerkleized {
             alloc,
+            hashing,
             chain,
-            writes: Writes::new(alloc),
+            writes: Writes::new(alloc, hashing),
             metadata: None,
         }
     }

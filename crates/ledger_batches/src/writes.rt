@@ -5,13 +5,14 @@ ghost use Rattle.ledger_batches.specs.Writes.{Write, last_write, settled};
 use indexmap::IndexMap;
 use ledger_codec::OutOfMemory;
 use ledger_log::{Key, Value};
+use ledger_transfers::Seeded;
 use std::alloc::Global;
 use std::marker::Model;
 
 /// The written keys in the order of their first writes, each with what its last write leaves.
 #[derive(Drop)]
 pub(crate) struct Writes {
-    entries: IndexMap<Key, Option<Value>>,
+    entries: IndexMap<Key, Option<Value>, Seeded>,
 }
 
 impl Model for Writes {
@@ -26,12 +27,12 @@ impl Model for Writes {
 }
 
 impl Writes {
-    /// No writes.
-    pub(crate) fn new(alloc: Global) -> Writes
+    /// No writes, in a table that hashes its keys so.
+    pub(crate) fn new(alloc: Global, hashing: Seeded) -> Writes
         ensures { result ≡ [] }
     {
         Writes {
-            entries: IndexMap::new(alloc),
+            entries: IndexMap::with_hasher(alloc, hashing),
         }
     }
 

@@ -102,19 +102,20 @@ def cases():
 
 
 def reads():
-    """The values of the keys 1 to 4 in the tests, 0 where there is none: each level of writes goes over those below."""
+    """The value of the key 1 in the tests, 0 where there is none: each level of writes goes over those below."""
     levels = {
-        "a log": [{1: 1, 4: 4}],
-        "with writes": [{1: 1, 4: 4}, dict([(1, 5), (2, 0), (1, 2), (3, 0), (3, 3), (4, 0)])],
-        "over two ancestors": [{1: 1, 2: 1, 4: 1}, {2: 2, 1: 0}, {2: 3}, {3: 9}],
+        "a log": [{1: 1}],
+        "with two writes": [{1: 1}, dict([(1, 5), (1, 2)])],
+        "and a deletion": [{1: 1}, dict([(1, 5), (1, 2), (1, 0)])],
+        "over two ancestors": [{1: 1}, {1: 0}, {1: 3}],
     }
     for text, below in levels.items():
-        yield text, [next((level[key] for level in reversed(below) if key in level), 0) for key in (1, 2, 3, 4)]
+        yield text, next(level[1] for level in reversed(below) if 1 in level)
 
 
 def main():
-    for text, values in reads():
-        print(text, values)
+    for text, value in reads():
+        print(text, value)
     for text, ops, writes in cases():
         print(text)
         for place, op in enumerate(raised(ops, changes(replay(ops), writes)), len(ops)):
