@@ -1,5 +1,5 @@
 -- The words of `sync`.
-use Rattle.std.specs.Prelude.{ℕ, Bool, ◌&&◌, List, [], ◌∷◌, map, Option, Some, None, codes, unwrap_or, option_and_then, nat_lt, nat_le, if◌then◌else◌}
+use Rattle.std.specs.Prelude.{ℕ, ◌&&◌, List, [], ◌∷◌, map, Option, Some, None, codes, unwrap_or, option_and_then, nat_lt, nat_le, if◌then◌else◌}
 use Rattle.std.specs.Char.{to_ascii_lowercase}
 use Rattle.std.specs.Str.{bytes_eq}
 use Rattle.ledger_examples.specs.declared.names.SyncMode.{SyncMode}
