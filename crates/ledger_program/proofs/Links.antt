@@ -13,7 +13,7 @@ use Rattle.ledger_log.specs.declared.any.AnyOp.{AnyOp}
 use Rattle.ledger_log.specs.declared.target.Target.{Target}
 use Rattle.ledger_merkle.specs.Tree.{root, grow, part_root}
 use Rattle.ledger_program.proofs.Causes.{local_fails}
-use Rattle.ledger_program.specs.Follow.{FollowsLog, Foretold, IsSteady, range_in}
+use Rattle.ledger_program.specs.Follow.{FollowsLog, Foretold, IsCalm, range_in}
 use Rattle.ledger_program.specs.Peer.{payments}
 use Rattle.ledger_program.specs.Run.{IsServed, ReportsJob, LocalFails, SpansLog, run_fault_of}
 use Rattle.ledger_program.specs.Served.{served}
@@ -104,18 +104,18 @@ module _ (job : Job) (ops : List AnyOp) (target : Target) (blocks : List (Block 
     range_whole_is = subst (IsWhole target.start) (sym (range_whole ops target is)) w
 
     -- and its faults are the job's
-    pub fails_job : (fault : Fault) (before now : ℕ) → FollowsLog payments (whole_log ops) target blocks (Err fault) → IsSteady {X = Report Sequenced} (Err fault) before now → LocalFails job (run_fault_of fault)
-    fails_job faults.Network before now h steady = absurd steady
-    fails_job faults.RequestChannelClosed before now h steady = absurd h
-    fails_job faults.InvalidResponse before now h steady = absurd h
-    fails_job (faults.UnexpectedResponse number) before now h steady = absurd h
-    fails_job (faults.Server code text) before now h steady = absurd h
-    fails_job (faults.InvalidProof number) before now h steady = absurd h
-    fails_job faults.TooManyStrays before now h steady = absurd h
-    fails_job (faults.StaleUpdate start end) before now h steady = absurd h
-    fails_job (faults.WrongRoot found) before now h steady = absurd h
-    fails_job (faults.BadLog location) before now h steady = local_fails job target (range_in (whole_log ops) target) blocks serves_job range_is b range_whole_is (causes.BadLog location) h
-    fails_job (faults.BadValue location) before now h steady = local_fails job target (range_in (whole_log ops) target) blocks serves_job range_is b range_whole_is (causes.BadValue location) h
-    fails_job (faults.Rejected block rejection) before now h steady = local_fails job target (range_in (whole_log ops) target) blocks serves_job range_is b range_whole_is (causes.Rejected block rejection) h
-    fails_job (faults.Full block) before now h steady = local_fails job target (range_in (whole_log ops) target) blocks serves_job range_is b range_whole_is (causes.Full block) h
-    fails_job faults.OutOfMemory before now h steady = tt
+    pub fails_job : (fault : Fault) → FollowsLog payments (whole_log ops) target blocks (Err fault) → IsCalm {X = Report Sequenced} (Err fault) → LocalFails job (run_fault_of fault)
+    fails_job faults.Network h calm = absurd calm
+    fails_job faults.RequestChannelClosed h calm = absurd h
+    fails_job faults.InvalidResponse h calm = absurd h
+    fails_job (faults.UnexpectedResponse number) h calm = absurd h
+    fails_job (faults.Server code text) h calm = absurd h
+    fails_job (faults.InvalidProof number) h calm = absurd h
+    fails_job faults.TooManyStrays h calm = absurd h
+    fails_job (faults.StaleUpdate start end) h calm = absurd h
+    fails_job (faults.WrongRoot found) h calm = absurd h
+    fails_job (faults.BadLog location) h calm = local_fails job target (range_in (whole_log ops) target) blocks serves_job range_is b range_whole_is (causes.BadLog location) h
+    fails_job (faults.BadValue location) h calm = local_fails job target (range_in (whole_log ops) target) blocks serves_job range_is b range_whole_is (causes.BadValue location) h
+    fails_job (faults.Rejected block rejection) h calm = local_fails job target (range_in (whole_log ops) target) blocks serves_job range_is b range_whole_is (causes.Rejected block rejection) h
+    fails_job (faults.Full block) h calm = local_fails job target (range_in (whole_log ops) target) blocks serves_job range_is b range_whole_is (causes.Full block) h
+    fails_job faults.OutOfMemory h calm = tt

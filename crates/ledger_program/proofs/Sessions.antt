@@ -1,5 +1,5 @@
 -- What a followed log's session and report answer, as what the whole call does.
-use Rattle.std.proofs.Common.{◌≡◌, ℕ, ◌-◌, ◌≤◌, ◌++◌, inl, inr, List, All, Option, Some, Ok, Err, length, take, refl, sym, ap, ◌∙◌, subst, arith, length-append}
+use Rattle.std.proofs.Common.{◌≡◌, ℕ, ◌-◌, ◌≤◌, ◌++◌, inl, inr, List, All, Option, Some, Result, Ok, Err, length, take, refl, sym, ap, ◌∙◌, subst, arith, length-append}
 use Rattle.std.proofs.lemmas.List.{take_at}
 use Rattle.ledger_job.specs.declared.block.Block.{Block}
 use Rattle.ledger_log.specs.Any.{any_spelling}
@@ -10,7 +10,7 @@ use Rattle.ledger_log.specs.declared.target.Target.{Target}
 use Rattle.ledger_merkle.specs.declared.proof.Part.{Part as Fetched}
 use Rattle.ledger_program.specs.Faults.{fault_of}
 use Rattle.ledger_program.specs.declared.fault.Fault.{Fault}
-use Rattle.ledger_program.specs.Follow.{idle, beginning, IsFetched, Follows, FollowFails, FollowsLog, TakesLater, Foretold, range_in, MayStop, fault_of_sync}
+use Rattle.ledger_program.specs.Follow.{idle, beginning, IsFetched, Follows, FollowFails, FollowsLog, TakesLater, Foretold, range_in, MayStop, IsCalm, fault_of_sync}
 use Rattle.ledger_settling.specs.Blocks.{Meaning, IsReadable, IsRejected, IsFull}
 use Rattle.ledger_settling.specs.Faults.{RunFails, IsBadValue}
 use Rattle.ledger_settling.specs.Reports.{ReportOf, IsWhole}
@@ -18,6 +18,7 @@ use Rattle.ledger_settling.specs.declared.fault.ReportFault.{ReportFault}
 use Rattle.ledger_settling.specs.declared.fault.ReportFault.TheVariants as causes
 use Rattle.ledger_settling.specs.declared.report.Report.{Report}
 use Rattle.sha2.specs.Sha256.{sha256}
+use Rattle.sync_client.specs.Counts.{NeverNetwork}
 use Rattle.sync_client.specs.Asking.{LimitsView, first_plan}
 use Rattle.sync_client.specs.Ending.{Origin, origin_of, Finished, Stopped}
 use Rattle.sync_client.specs.declared.fault.SyncFault.{SyncFault}
@@ -31,6 +32,32 @@ use Rattle.sync_net.specs.View.{MachineView}
 use Rattle.sync_net.specs.Wire.{Wire}
 
 -- ---- faults
+
+calm_stop : (X Y : Type 0) (fault : SyncFault) (before now : ℕ) → NeverNetwork {X = Y} (Err fault) before now → IsCalm {X = X} (Err (fault_of_sync fault))
+calm_stop X Y sync.Network before now h = absurd h
+calm_stop X Y sync.RequestChannelClosed before now h = tt
+calm_stop X Y sync.InvalidResponse before now h = tt
+calm_stop X Y (sync.UnexpectedResponse number) before now h = tt
+calm_stop X Y (sync.Server code text) before now h = tt
+calm_stop X Y (sync.InvalidProof number) before now h = tt
+calm_stop X Y sync.TooManyStrays before now h = tt
+calm_stop X Y (sync.StaleUpdate start end) before now h = tt
+calm_stop X Y (sync.WrongRoot found) before now h = tt
+calm_stop X Y sync.Closed before now h = tt
+calm_stop X Y sync.Exhausted before now h = tt
+calm_stop X Y sync.OutOfMemory before now h = tt
+
+-- a session over a link whose calls can't fail doesn't end with Network
+pub calm_session : (X : Type 0) {Y : Type 0} (r : Result Y SyncFault) (fault : SyncFault) (before now : ℕ) → r ≡ Err fault → NeverNetwork r before now → IsCalm {X = X} (Err (fault_of_sync fault))
+calm_session X {Y} r fault before now e h = calm_stop X Y fault before now (subst (λ q. NeverNetwork q before now) e h)
+
+-- nor does a report
+pub calm_report : (X : Type 0) (cause : ReportFault) → IsCalm {X = X} (Err (fault_of cause))
+calm_report X (causes.BadLog location) = tt
+calm_report X (causes.BadValue location) = tt
+calm_report X (causes.Rejected block rejection) = tt
+calm_report X (causes.Full block) = tt
+calm_report X causes.OutOfMemory = tt
 
 -- a session that begins with an open machine and number 1 is neither closed nor exhausted
 pub may_stop : (target : Target) (updates : List (Option Target)) (limits : LimitsView) (before : Option Wire) (count : ℕ) (fault : SyncFault) (m : MachineView) (now : List (Option Target)) (wire : Option Wire) (risen : ℕ)

@@ -148,3 +148,8 @@ LeavesCount result before now = now ≡ before
 abbrev pub IsSteady : {X : Type 0} → Result X Fault → ℕ → ℕ → Type 0
 IsSteady (Err Network) before now = ⊥
 IsSteady result before now = now ≡ before
+
+-- Network isn't answered
+abbrev pub IsCalm : {X : Type 0} → Result X Fault → Type 0
+IsCalm (Err Network) = ⊥
+IsCalm result = ⊤

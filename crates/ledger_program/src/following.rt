@@ -31,7 +31,7 @@ use sync_client::{HashedPart, Limits, SyncFault, Targets, sync_hashed};
 use sync_net::{Generator, Link, Machine};
 
 /// A fault of the session as one of the whole call.
-fn sync_fault(fault: SyncFault) -> Fault
+pub(crate) fn sync_fault(fault: SyncFault) -> Fault
     requires { MayStop fault }
     ensures { result ≡ fault_of_sync fault }
 {

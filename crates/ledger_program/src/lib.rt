@@ -20,6 +20,7 @@ mod fault;
 mod following;
 mod key_text;
 mod local;
+mod once;
 mod outcome;
 mod peer;
 mod printable;

@@ -9,7 +9,7 @@ ghost use Rattle.sync_net.specs.Service.{service_of};
 ghost use Rattle.sync_server.specs.Links.{service_told};
 
 use crate::fault::Fault;
-use crate::following::follow;
+use crate::once::follow_once;
 use crate::outcome::RunFault;
 use crate::served::{open_served, served};
 use ledger_job::{Job, JobLimits};
@@ -70,29 +70,36 @@ pub(crate) fn run_fault(fault: Fault) -> RunFault
 }
 
 /// The report of the job's blocks over the log that it serves, followed over a link in memory whose calls don't
-/// fail.
+/// fail. Neither the job's accounts nor the served log take memory while the blocks are settled.
 pub(crate) fn follow_local<R: RandomSource + Threads + Sync, St: Strategy>(
     rt: &R,
     alloc: Global,
-    job: &Job,
+    job: Job,
     strategy: &St,
 ) -> Result<Report<Sequenced>, RunFault>
-    ensures reports { IfOk result (ReportsJob job.now) }
-    ensures fails { IfErr result (LocalFails job.now) }
+    ensures reports { IfOk result (ReportsJob job) }
+    ensures fails { IfErr result (LocalFails job) }
 {
-    let ops = served(alloc, job.opens.as_slice())?;
+    let Job {
+        opens,
+        limits,
+        blocks,
+        ..
+    } = job;
+    let ops = served(alloc, opens.as_slice())?;
+    drop(opens);
     let log = open_served(alloc, ops)?;
     let target = target_of(&log);
-    let limits = limits_of(job.limits);
-    let mut link = link_to(alloc, log);
-    match follow(
+    let limits = limits_of(limits);
+    let link = link_to(alloc, log);
+    match follow_once(
         rt,
         alloc,
         &target,
         &mut NoTargets,
         &limits,
-        job.blocks.as_slice(),
-        &mut link,
+        blocks.as_slice(),
+        link,
         strategy,
     ) {
         Ok(report) => Ok(report),

@@ -110,7 +110,7 @@ fn follow_job<R: RandomSource + Threads + Sync, D: Dialer>(
     ensures undialed { kind ≡ local_kind → dialer.new ≡ dialer.old }
 {
     match kind {
-        JobKind::Local => follow_local(rt, alloc, &job, &Sequential),
+        JobKind::Local => follow_local(rt, alloc, job, &Sequential),
         JobKind::Follow => follow_peer(rt, alloc, job, address, dialer, &Sequential),
     }
 }

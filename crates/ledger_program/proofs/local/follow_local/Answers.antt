@@ -22,7 +22,7 @@ returns-in-Ok-clause-reports g c =
     let told = subst (λ (l : LogView AnyOp). OwesNothing (data_of any_spelling any_floor l) (service_of link.lost (service_told any_spelling any_floor link))) e c.link_to-link.ensures.serves in
     let h = serves_whole ops target c.in_ok-ops.ensures.sound c.target_of-target.ensures.most spans in
     let own = c.in-Ok.ensures.serving (data_of any_spelling any_floor (whole_log ops)) target h told (foretold ops target) in
-    reports_job c.args.job.now ops target c.as_slice-2.result.now spans (c.in_ok-ops.ensures.list ∙ ap served c.as_slice.ensures) c.as_slice-2.ensures c.in-Ok.report c.in-Ok.ensures.report own
+    reports_job c.args.job ops target c.as_slice-2.result.now spans (c.in_ok-ops.ensures.list ∙ ap served c.as_slice.ensures) c.as_slice-2.ensures c.in-Ok.report c.in-Ok.ensures.report own
 
 pub returns-clause-fails : goal.returns-clause-fails
 returns-clause-fails g c =
@@ -35,6 +35,6 @@ returns-clause-fails g c =
     let h = serves_whole ops target c.in_ok-ops.ensures.sound c.target_of-target.ensures.most spans in
     let own = c.in-Err.ensures.serving (data_of any_spelling any_floor (whole_log ops)) target h told (foretold ops target) in
     let whole : IsWhole target.start ops = subst (λ n. IsWhole n ops) (sym spans.start) c.in_ok-log.ensures.whole in
-    let steady = c.in-Err.ensures.steady_on c.link_to-link.ensures.steady in
-    subst (LocalFails c.args.job.now) (sym c.run_fault.ensures)
-    (fails_job c.args.job.now ops target c.as_slice-2.result.now spans (c.in_ok-ops.ensures.list ∙ ap served c.as_slice.ensures) c.as_slice-2.ensures whole c.in-Err.fault _ _ own steady.1)
+    let calm = c.in-Err.ensures.calm c.link_to-link.ensures.steady in
+    subst (LocalFails c.args.job) (sym c.run_fault.ensures)
+    (fails_job c.args.job ops target c.as_slice-2.result.now spans (c.in_ok-ops.ensures.list ∙ ap served c.as_slice.ensures) c.as_slice-2.ensures whole c.in-Err.fault own calm)
