@@ -3,7 +3,7 @@ use Rattle.std.proofs.Common.{◌≡◌, ℕ, ◌+◌, ◌-◌, ◌^◌, ◌||�
 use borrow.Author.Tests.{tests}
 use Rattle.std.specs.Prelude.{MatchOption, IsOkUnless, option_and_then, option_to_list, unwrap_or, is_some}
 use Rattle.std.specs.Option.{option_map}
-use Rattle.std.specs.List.{list_any, AllByRecursion, filter_map, cons_option, last_or, zip}
+use Rattle.std.specs.List.{list_any, AllByRecursion, filter_map, cons_option, last_or}
 use Rattle.std.proofs.lemmas.List.{append-nil}
 use Rattle.std.specs.BTreeMap.{BTreeMap}
 use Rattle.std.specs.Cmp.{IsEquivalence}

@@ -1,5 +1,5 @@
 -- That a run which has a report has no cause for a fault.
-use Rattle.std.proofs.Common.{◌≡◌, ℕ, zero, suc, ◌+◌, ◌*◌, ◌^◌, ◌<◌, ◌≤◌, ◌⊎◌, inl, inr, Bool, true, false, cond, not, List, [], ◌∷◌, ◌++◌, length, map, filter, take, slice_get, Option, None, Some, refl, sym, ap, subst, ◌∙◌, bytes_eq, arith, length-append, true≢false}
+use Rattle.std.proofs.Common.{◌≡◌, ℕ, zero, suc, ◌+◌, ◌*◌, ◌^◌, ◌<◌, ◌≤◌, ◌⊎◌, inl, inr, Bool, true, false, cond, not, List, [], ◌∷◌, ◌++◌, length, map, filter, take, slice_get, Option, None, Some, refl, sym, ap, subst, bytes_eq, arith, length-append, true≢false}
 use Rattle.std.specs.Prelude.{MatchBool, is_some, option_and_then, unwrap_or, ⊤}
 use Rattle.std.specs.List.{AllByRecursion, list_any, filter_map, cons_option, last_or, flat_map}
 use Rattle.std.specs.Cmp.Lexicographic.{nat_list_eq_equiv, bytes_decides}

@@ -1,18 +1,18 @@
 -- The slots of a plan, seen from the keys.
-use Rattle.std.proofs.Common.{◌≡◌, ℕ, zero, suc, ◌||◌, ◌⊎◌, ◌+◌, ◌-◌, ◌<◌, ◌≤◌, Bool, true, false, cond, List, [], ◌∷◌, length, get_or, slice_get, Option, None, Some, refl, sym, ap, subst, ◌∙◌, bytes_eq, inl, inr, filter, map, not, arith, true≢false}
-use Rattle.std.specs.Prelude.{IsSome, IsNone, MatchOption, position, is_some, option_and_then}
+use Rattle.std.proofs.Common.{◌≡◌, ℕ, zero, suc, ◌⊎◌, ◌+◌, ◌-◌, ◌<◌, ◌≤◌, Bool, true, false, cond, List, [], ◌∷◌, length, get_or, slice_get, Option, None, Some, refl, sym, ap, subst, ◌∙◌, bytes_eq, inl, inr, filter, map, not, arith, true≢false}
+use Rattle.std.specs.Prelude.{IsSome, IsNone, MatchOption, is_some}
 use Rattle.std.specs.Option.{option_map}
-use Rattle.std.specs.List.{IsDistinct, list_any, AllByRecursion}
+use Rattle.std.specs.List.{list_any, AllByRecursion}
 use Rattle.std.specs.Map.{lookup, keys_of}
 use Rattle.std.specs.Cmp.{IsEquivalence}
 use Rattle.std.specs.Cmp.Lexicographic.{nat_list_eq_equiv, bytes_decides}
 use Rattle.std.specs.BTreeMap.{BTreeMap}
 use Rattle.std.proofs.lemmas.Map.Entries.{lookup_from_place}
 use Rattle.std.proofs.lemmas.List.Elements.{All-from_recursion}
-use Rattle.std.proofs.lemmas.Option.{slice_get-map, slice_get-get_or, get_or_from_slice_get}
+use Rattle.std.proofs.lemmas.Option.{slice_get-map, slice_get-get_or}
 use Rattle.std.proofs.lemmas.List.{length-map}
 use Rattle.ledger_transfers.specs.Rules.{Rules, AccountLaws, SameOutcome}
-use Rattle.ledger_transfers.specs.Touches.{touches, total_of, IsPlanOf, IsTouched, IsWithinSums, IsSumOffence, max_amount}
+use Rattle.ledger_transfers.specs.Touches.{total_of, IsPlanOf, IsTouched, IsWithinSums, IsSumOffence, max_amount}
 use Rattle.ledger_transfers.specs.Registering.{AreSettled}
 use Rattle.ledger_transfers.specs.Settling.{folded, opened, after, final_balance, Settled, Settles, SettlesTo, SameSlot, slot_of, AreSlots, IsFirstOffence, PlanFails, HasFirstOffence}
 use Rattle.ledger_transfers.specs.declared.change.Change.{Change}

@@ -1,4 +1,4 @@
-use Rattle.std.proofs.Common.{◌≡◌, ◌++◌, ◌∷◌, [], List, ℕ, Option, take, get_or, map, position, sym, ap, ◌∙◌, bytes_eq}
+use Rattle.std.proofs.Common.{◌++◌, ◌∷◌, [], List, ℕ, Option, take, get_or, map, position, sym, ap, ◌∙◌, bytes_eq}
 use Rattle.std.proofs.lemmas.List.{take_more, map-append}
 use Rattle.ledger_settling.proofs.rounds.places_of.Goals as goal
 

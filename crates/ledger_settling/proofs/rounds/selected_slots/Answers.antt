@@ -1,4 +1,4 @@
-use Rattle.std.proofs.Common.{◌≡◌, ◌∙◌, List, ℕ, sym, ap, subst, length}
+use Rattle.std.proofs.Common.{◌∙◌, List, ℕ, sym, ap, subst, length}
 use Rattle.std.proofs.lemmas.List.{length-map}
 use Rattle.ledger_transfers.specs.declared.held.Held.{Held}
 use Rattle.ledger_strategy.proofs.PartsLemmas.{if_ok_both}

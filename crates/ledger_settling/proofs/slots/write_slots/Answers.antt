@@ -1,9 +1,7 @@
-use Rattle.std.proofs.Common.{◌≡◌, ◌+◌, ◌++◌, ◌∷◌, [], get_or, drop, reverse, sym, ap, subst, ◌∙◌, append_assoc, suc, add-one, option_and_then}
-use Rattle.std.specs.Prelude.{option_to_list}
+use Rattle.std.proofs.Common.{◌≡◌, ◌+◌, ◌++◌, ◌∷◌, [], get_or, drop, reverse, sym, ap, subst, ◌∙◌, append_assoc, add-one}
 use Rattle.std.proofs.Math.Seq.{drop-cons}
 use Rattle.std.proofs.lemmas.List.{append-nil}
 use Rattle.ledger_transfers.proofs.RegisterLemmas.{reverse_twice}
-use Rattle.ledger_settling.specs.Blocks.{written}
 use Rattle.ledger_settling.specs.Reports.{IsReplay}
 use Rattle.ledger_settling.specs.Slots.{writes_of}
 use Rattle.ledger_settling.proofs.AppendLemmas.{write_one}
