@@ -10,7 +10,7 @@ ghost use Rattle.ledger_program.specs.Run.{Caused, Completes, status_of};
 ghost use Rattle.ledger_program.specs.declared.outcome.RunFault.{RunFault};
 
 use ledger_codec::{Reading, Sink, Source, Writing};
-use ledger_program::run;
+use ledger_program::{run, starved};
 use std::alloc::{AllocError, Global};
 use std::process::ExitCode;
 use std::random::RandomSource;
@@ -23,14 +23,16 @@ use sync_net::Dialer;
 #[cfg(test)]
 mod tests;
 
-/// The words behind the name of the program; none where they aren't text.
+/// The words behind the name of the program; none where they aren't text. Err where there is no memory for them.
 fn words<R: Env + AllocGlobal>(rt: &R) -> Result<Vec<String>, AllocError> {
-    let alloc = rt.alloc();
-    let mut words = Vec::new(alloc);
-    if let Ok(args) = env::args(rt) {
-        for word in args.skip(1) {
-            words.push(word)?;
-        }
+    let mut words = Vec::new(rt.alloc());
+    let args = match env::args(rt) {
+        Ok(args) => args,
+        Err(error) if error.kind() == io::ErrorKind::OutOfMemory => return Err(AllocError),
+        Err(_) => return Ok(words),
+    };
+    for word in args.skip(1) {
+        words.push(word)?;
     }
     Ok(words)
 }
@@ -59,11 +61,11 @@ fn ended<R: RandomSource + Threads + Sync, S: Source, D: Dialer, K: Sink>(
 
 fn main(rt: HostRuntime) -> ExitCode {
     let alloc = rt.alloc();
+    let mut out = Writing::new(io::writer(&rt));
     let Ok(words) = words(&rt) else {
-        return ExitCode::from(11);
+        return ExitCode::from(starved(&mut out).status);
     };
     let mut job = Reading::new(rt.reader());
-    let mut out = Writing::new(io::writer(&rt));
     let mut dialer = TcpDialer::new(&rt);
     ended(&rt, alloc, &words, &mut job, &mut dialer, &mut out)
 }

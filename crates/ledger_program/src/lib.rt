@@ -33,7 +33,7 @@ mod writing;
 pub use fault::Fault;
 pub use following::follow;
 pub use outcome::{Outcome, RunFault};
-pub use program::run;
+pub use program::{run, starved};
 
 #[cfg(test)]
 mod tests;

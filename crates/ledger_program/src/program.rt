@@ -9,7 +9,7 @@ ghost use Rattle.ledger_program.specs.Forms.{one_word, two_words, form_of};
 ghost use Rattle.ledger_program.specs.Peer.{link_over};
 ghost use Rattle.ledger_program.specs.Run.{status_of, IsJob, ReadFails, Reports, JobFails, Attempted, Followed, Wrote, LineWent, LineOut, WriteFails, IsEarly, IsLate, Caused, Completes, has_report, is_read, is_undialed};
 ghost use Rattle.ledger_program.specs.Writing.{AppendsFront};
-ghost use Rattle.ledger_program.specs.declared.outcome.RunFault.TheVariants.{Output};
+ghost use Rattle.ledger_program.specs.declared.outcome.RunFault.TheVariants.{Output, OutOfMemory};
 
 use crate::error_line::error_line;
 use crate::local::follow_local;
@@ -193,6 +193,15 @@ fn refused<K: Sink>(fault: RunFault, out: &mut K) -> Outcome
         report: None,
         fault: Some(fault),
     }
+}
+
+/// The outcome where there was no memory for the words themselves, with its line: for who collects them.
+pub fn starved<K: Sink>(out: &mut K) -> Outcome
+    ensures status { result.status ≡ status_of (Some OutOfMemory) }
+    ensures fault { result.fault ≡ Some OutOfMemory }
+    ensures line { LineOut K.grows (K.written out.old) (K.written out.new) (K.faults out.old) (K.faults out.new) None OutOfMemory }
+{
+    refused(RunFault::OutOfMemory, out)
 }
 
 /// The outcome of a run with a report, which is printed.
