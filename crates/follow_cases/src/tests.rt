@@ -2,6 +2,7 @@
 
 mod damage;
 mod ends;
+mod four;
 mod later;
 mod orders;
 mod rows;
