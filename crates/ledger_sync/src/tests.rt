@@ -3,6 +3,8 @@ use crate::sync_form;
 use ledger_examples::{DatabaseType, SyncMode};
 use std::alloc::Global;
 
+mod logs;
+
 /// What the words of this line ask for: the mode, the family, the batch, the requests at once.
 fn asked(alloc: Global, line: &str) -> Option<(SyncMode, DatabaseType, u64, usize)> {
     let mut words = Vec::new(alloc);
