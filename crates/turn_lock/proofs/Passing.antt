@@ -1,5 +1,5 @@
 -- From what a seat says of a turn to what its pass says.
-use Rattle.std.proofs.Common.{◌≡◌, ◌≢◌, ◌⊎◌, ℕ, ◌+◌, ◌-◌, List, [], ◌∷◌, ◌++◌, length, Option, Some, None, Bool, true, false, cond, leb, get_or, refl, sym, ap, ◌∙◌, subst, ⊎_elim, inl, inr, append-nil, append_assoc, map, ◌<◌, ◌≤◌, arith}
+use Rattle.std.proofs.Common.{◌≡◌, ◌⊎◌, ℕ, ◌+◌, List, [], ◌∷◌, ◌++◌, length, Option, Some, None, Bool, true, false, cond, leb, get_or, refl, sym, ap, ◌∙◌, subst, ⊎_elim, inl, inr, append-nil, append_assoc, map, ◌<◌, arith}
 use Rattle.std.proofs.lemmas.List.{map-append}
 use Rattle.std.proofs.lemmas.List.Elements.{All-nil, All-cons, All-append}
 use native.Mathlib.Decide.{dec_lt}
@@ -15,9 +15,9 @@ use Rattle.turn_lock.specs.declared.rule.Stage.TheVariants.{Idle, Waits, Holds}
 use Rattle.turn_lock.specs.History.{value_after, Legal, calls, IsBeginning}
 use Rattle.turn_lock.specs.Rule.{filled, longer, Told, StandsFor, recount}
 use Rattle.turn_lock.specs.Turns.{IsSame, IsIdle, waiting, Took, Placed, Leaves, Joined, Left}
-use Rattle.turn_lock.specs.Passes.{PassValue, is_holding, added, within_turn, having_seen, Takes, IsTurn, Gives, Meets, call_of, Present, Closes}
+use Rattle.turn_lock.specs.Passes.{PassValue, is_holding, added, having_seen, Takes, IsTurn, Gives, Meets, call_of, Present, Closes}
 use Rattle.turn_lock.specs.Seated.{Carries, pass_value, IsPass, Gathers}
-use Rattle.turn_lock.proofs.Histories.{filled-append, value_after-snoc, legal_snoc, calls-own, filled_begins}
+use Rattle.turn_lock.proofs.Histories.{filled-append, legal_snoc, filled_begins}
 
 -- ---- a seat between two turns, and one within
 
@@ -67,25 +67,6 @@ module _ {V E A : Type 0} (after : V → E → A → V) (Answers : V → E → A
         legal = subst (Legal after Answers o) (sym took.3) value.1;
         value = value.0 ∙ ap (value_after after o) (sym took.3);
         own = ap (calls c) took.3 ∙ sym (subst (Told (filled took.0)) pass.mine took.5).0;
-      }
-
-  -- and its seat is that of a pass
-  pub taken : (a b : Seat (Option (Held V E A)) (View V E A)) (c used turns t : ℕ) (y : Held V E A) → IsPass after Answers a c used turns → used ≢ turns → turns < 4294967296 → IsSame a b → Took after Answers (waiting a.me.0 t) t b.me y
-      → IsPass after Answers b c (used + 1) turns
-  taken a b c used turns t y pass left low same took =
-      let m = ap (λ (x : Me (Option (Held V E A)) (View V E A)). x.0) took.1 in
-      let is_filled : filled b.me.0.places ≡ filled took.0 = ap (λ (v : View V E A). filled v.places) m in
-      let told = subst (Told (filled took.0)) pass.mine took.5 in
-      let spent : b.me.0.budget ≡ a.me.0.budget - 1 = ap (λ (v : View V E A). v.budget) m in
-      let all = pass.budget in
-      let most = pass.used_up in
-      let opening : b.me.0.opening ≡ a.me.0.opening = ap (λ (v : View V E A). v.opening) m in
-      record {
-        carries = subst (λ (x : Me (Option (Held V E A)) (View V E A)). Carries x.0.stage x.1) (sym took.1) refl;
-        legal = λ o e. subst (Legal after Answers o) (sym is_filled) (took.4 o (sym opening ∙ e)).1;
-        mine = ap (λ (v : View V E A). v.mine) m ∙ pass.mine ∙ ap (λ l. (c, l) ∷ []) (told.0 ∙ ap (calls c) (sym is_filled));
-        budget = omega (arith, spent, all, most, left, low);
-        used_up = omega (arith, most, left);
       }
 
   -- ---- a turn ends
@@ -155,25 +136,6 @@ module _ {V E A : Type 0} (after : V → E → A → V) (Answers : V → E → A
         mine = (left.0, seen ∙ left.1);
         noted = (right.0, seen ∙ right.1);
         own = ap (calls c) seen ∙ sym told.0;
-      }
-
-  -- and its seat is that of a pass
-  pub has_met : (a b note : Seat (Option (Held V E A)) (View V E A)) (c used turns : ℕ) → IsPass after Answers a c used turns → IsIdle a → note.me.0.mine ≡ [] → note.me.0.budget ≡ 0 → Joined after Answers a.me.0 note.me.0 b.me
-      → IsPass after Answers b c used turns
-  has_met a b note c used turns pass idle alone no_budget j =
-      let l : List (Option (Entry E A)) = longer a.me.0.places note.me.0.places in
-      let m = ap (λ (x : Me (Option (Held V E A)) (View V E A)). x.0) j.0 in
-      let seen : filled b.me.0.places ≡ filled l = ap (λ (v : View V E A). filled v.places) m in
-      let told = subst (λ ms. Told (filled l) (ms ++ note.me.0.mine)) pass.mine j.3 in
-      let spent : b.me.0.budget ≡ a.me.0.budget + note.me.0.budget = ap (λ (v : View V E A). v.budget) m in
-      let all = pass.budget in
-      let opening : b.me.0.opening ≡ a.me.0.opening = ap (λ (v : View V E A). v.opening) m in
-      record {
-        carries = subst (λ (x : Me (Option (Held V E A)) (View V E A)). Carries x.0.stage x.1) (sym j.0) (subst (λ (s : Stage). Carries {V = V} {E = E} {A = A} s []) (sym idle.0) refl);
-        legal = λ o e. subst (Legal after Answers o) (sym seen) (j.4 o (sym opening ∙ e));
-        mine = ap (λ (v : View V E A). v.mine) m ∙ ap (λ ms. ms ++ note.me.0.mine) pass.mine ∙ ap (λ ms. (c, calls c (filled a.me.0.places)) ∷ ms) alone ∙ ap (λ k. (c, k) ∷ []) (told.0 ∙ ap (calls c) (sym seen));
-        budget = omega (arith, spent, all, no_budget);
-        used_up = pass.used_up;
       }
 
   -- ---- the end

@@ -1,6 +1,5 @@
 -- Each step keeps the rule.
-use Rattle.std.proofs.Common.{◌≡◌, ◌≢◌, ◌⊎◌, ℕ, zero, suc, ◌+◌, ◌-◌, ◌*◌, ◌%◌, ◌^◌, ◌<◌, ◌≤◌, List, [], ◌∷◌, ◌++◌, length, set, get_or, Option, Some, None, refl, sym, ap, ◌∙◌, subst, ⊎_elim, inl, inr, arith, append-nil, length-append, mod-eq_of_lt, map}
-use Rattle.std.specs.Prelude.{slice_set, slice_index}
+use Rattle.std.proofs.Common.{◌≡◌, ◌≢◌, ℕ, zero, suc, ◌+◌, ◌-◌, ◌*◌, ◌%◌, ◌^◌, ◌<◌, ◌≤◌, List, [], ◌∷◌, ◌++◌, length, set, get_or, Option, Some, None, refl, sym, ap, ◌∙◌, subst, ⊎_elim, inl, inr, arith, length-append, mod-eq_of_lt}
 use mathlib.Core.Option.{some, none, some-ne-none, some-injective}
 use mathlib.Core.Option as maybe
 use mathlib.Core.Logic.{dite}
@@ -16,11 +15,10 @@ use Rattle.turn_lock.specs.declared.rule.View.{View}
 use Rattle.turn_lock.specs.declared.rule.Stage.{Stage}
 use Rattle.turn_lock.specs.declared.rule.Stage.TheVariants.{Idle, Waits, Holds}
 use Rattle.turn_lock.specs.History.{value_after, Legal, calls}
-use Rattle.turn_lock.specs.History.{IsBeginning}
 use Rattle.turn_lock.specs.Turns.{Good, Left}
-use Rattle.turn_lock.specs.Rule.{callers, tail_of, head_of, filled, Begins, longer, StandsFor, Told, recount, HasTicket, tickets, total, Fits, Apart, IsValue, Home, Kept, view, first_view, blank, rest_dealt, one_dealt, note_of, met, drawn, Taken, watched, raised, looked}
-use Rattle.turn_lock.proofs.Views.{total_set, total_snoc, at_snoc_at, at_below, each_set, each_snoc, set_swap, Pairs, pairs_set, pairs_snoc}
-use Rattle.turn_lock.proofs.Histories.{filled-append, value_after-snoc, legal_begins, calls-other, begins_same, begins_nil, begins_then, begins_more, told_recount, recount_stands, stands_recount, told_stays, told_append, stands_append, begins_longer, filled_begins, told_between, place_legal, place_told, place_others, told_callers, stands_callers, callers_stand}
+use Rattle.turn_lock.specs.Rule.{callers, tail_of, head_of, filled, longer, StandsFor, Told, recount, HasTicket, tickets, Fits, Apart, IsValue, Home, Kept, first_view, blank, rest_dealt, one_dealt, note_of, met, drawn, Taken, watched, raised, looked}
+use Rattle.turn_lock.proofs.Views.{total_set, total_snoc, each_set, each_snoc, set_swap, pairs_set, pairs_snoc}
+use Rattle.turn_lock.proofs.Histories.{legal_begins, begins_same, begins_nil, begins_more, told_recount, recount_stands, told_append, stands_append, begins_longer, filled_begins, told_between, place_legal, place_told, place_others, told_callers, stands_callers}
 
 has_holds : (s : Stage) (t : ℕ) → s ≡ Holds t → HasTicket s t
 has_holds s t e = subst (λ x. HasTicket x t) (sym e) refl

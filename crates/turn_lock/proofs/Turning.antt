@@ -1,9 +1,8 @@
 -- What may be given back at the end of a turn.
-use Rattle.std.proofs.Common.{◌≡◌, ℕ, List, [], ◌∷◌, ◌++◌, Option, Some, None, refl, sym, ap, ◌∙◌, subst, append-nil}
-use Rattle.turn_lock.specs.declared.entry.Entry.{Entry}
+use Rattle.std.proofs.Common.{◌≡◌, [], ◌∷◌, ◌++◌, Some, None, refl, sym, ap, ◌∙◌, subst, append-nil}
 use Rattle.turn_lock.specs.declared.held.Held.{Held}
 use Rattle.turn_lock.specs.History.{value_after, entry}
-use Rattle.turn_lock.specs.Passes.{PassValue, within_turn, Takes, Gives}
+use Rattle.turn_lock.specs.Passes.{PassValue, Takes, Gives}
 use Rattle.turn_lock.proofs.Histories.{value_after-snoc}
 
 module _ {V E A : Type 0} (after : V → E → A → V) (Answers : V → E → A → Type 0) where

@@ -1,9 +1,7 @@
 -- How passes and notes lie on seats.
 use Rattle.std.specs.Prelude.{◌≡◌, ℕ, ◌+◌, ◌*◌, ◌≤◌, List, [], ◌∷◌, ◌++◌, map, Option, Some, None}
 use Rattle.std.specs.List.{All}
-use Rattle.atomic_table.specs.Seated.{TableId}
 use Rattle.atomic_table.specs.declared.shared.Seat.{Seat}
-use Rattle.turn_lock.specs.declared.entry.Entry.{Entry}
 use Rattle.turn_lock.specs.declared.held.Held.{Held}
 use Rattle.turn_lock.specs.declared.rule.View.{View}
 use Rattle.turn_lock.specs.declared.rule.Stage.{Stage}
@@ -11,7 +9,7 @@ use Rattle.turn_lock.specs.declared.rule.Stage.TheVariants.{Idle, Waits, Holds}
 use Rattle.turn_lock.specs.History.{Legal, calls, IsBeginning}
 use Rattle.turn_lock.specs.Rule.{filled, callers}
 use Rattle.turn_lock.specs.Turns.{IsSame, IsIdle}
-use Rattle.turn_lock.specs.Passes.{Origin, PassValue, NoteValue, is_holding, call_of}
+use Rattle.turn_lock.specs.Passes.{PassValue, NoteValue, is_holding, call_of}
 
 -- of what a seat carries
 module _ {V E A : Type 0} where

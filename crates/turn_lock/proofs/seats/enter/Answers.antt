@@ -1,7 +1,4 @@
-use Rattle.std.proofs.Common.{◌≡◌, ℕ, List, [], ◌∷◌, Option, Some, None, arith, sym, ap, ◌∙◌, subst}
-use Rattle.turn_lock.specs.declared.held.Held.{Held}
-use Rattle.turn_lock.specs.declared.rule.View.{View}
-use Rattle.turn_lock.specs.Turns.{Took}
+use Rattle.std.proofs.Common.{ap, ◌∙◌}
 use Rattle.turn_lock.proofs.seats.enter.Goals as goal
 
 pub try_take-requires-clause-seat : goal.try_take-requires-clause-seat

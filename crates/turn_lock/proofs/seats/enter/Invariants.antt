@@ -1,7 +1,4 @@
-use Rattle.std.proofs.Common.{◌≡◌, [], List, ℕ, Option}
-use Rattle.atomic_table.specs.Table.{Me}
-use Rattle.turn_lock.specs.declared.held.Held.{Held}
-use Rattle.turn_lock.specs.declared.rule.View.{View}
+use Rattle.std.proofs.Common.{◌≡◌, []}
 use Rattle.turn_lock.specs.Turns.{IsSame, waiting}
 use Rattle.turn_lock.proofs.seats.enter.Given as goal
 

@@ -1,7 +1,5 @@
-use Rattle.std.proofs.Common.{◌≡◌, ℕ, ◌+◌, List, [], ◌∷◌, Option, Some, None, arith, sym, ap, ◌∙◌, subst, refl}
-use Rattle.atomic_table.specs.Table.{Me, rest}
-use Rattle.turn_lock.specs.declared.held.Held.{Held}
-use Rattle.turn_lock.specs.declared.rule.View.{View}
+use Rattle.std.proofs.Common.{[], ◌∷◌, Some, None, arith, sym, ap, ◌∙◌, subst, refl}
+use Rattle.atomic_table.specs.Table.{rest}
 use Rattle.turn_lock.proofs.Steps.{raises_at, Raising}
 use Rattle.turn_lock.proofs.seats.leave.Goals as goal
 

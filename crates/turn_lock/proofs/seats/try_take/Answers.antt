@@ -1,6 +1,5 @@
-use Rattle.std.proofs.Common.{◌≡◌, ℕ, List, [], ◌∷◌, Option, Some, None, arith, sym, ap, ◌∙◌}
+use Rattle.std.proofs.Common.{◌∷◌, Some, arith, sym, ap, ◌∙◌}
 use Rattle.atomic_table.specs.Table.{rest}
-use Rattle.turn_lock.specs.declared.held.Held.{Held}
 use Rattle.turn_lock.proofs.Steps.{watches_at}
 use Rattle.turn_lock.proofs.seats.try_take.Goals as goal
 

@@ -1,5 +1,5 @@
 use Rattle.std.proofs.Common.{◌≡◌, false, ◌∷◌, [], ap, ◌∙◌, subst}
-use Rattle.turn_lock.specs.Passes.{PassValue, is_holding}
+use Rattle.turn_lock.specs.Passes.{is_holding}
 use Rattle.turn_lock.specs.Seated.{Gathers}
 use Rattle.turn_lock.proofs.Passing.{takes_in, is_idle}
 use Rattle.turn_lock.proofs.share.take_in.Goals as goal

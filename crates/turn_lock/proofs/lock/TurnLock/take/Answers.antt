@@ -1,8 +1,8 @@
-use Rattle.std.proofs.Common.{◌≡◌, ◌+◌, false, Some, refl, sym, ap, subst, inl, ◌∙◌, arith}
+use Rattle.std.proofs.Common.{◌≡◌, ◌+◌, false, Some, refl, sym, ap, subst, inl, ◌∙◌}
 use Rattle.turn_lock.specs.Rule.{StandsFor}
 use Rattle.turn_lock.specs.Passes.{Takes, is_holding}
 use Rattle.turn_lock.specs.Seated.{pass_value}
-use Rattle.turn_lock.proofs.Passing.{takes, taken, is_idle}
+use Rattle.turn_lock.proofs.Passing.{takes, is_idle}
 use Rattle.turn_lock.proofs.lock.TurnLock.take.Goals as goal
 
 pub enter-held-requires-clause-idle : goal.enter-held-requires-clause-idle
