@@ -1,5 +1,6 @@
 //! Worked cases. Roots and frames are those of vectors/cases.py.
 
+mod binding;
 mod damage;
 mod ends;
 mod four;
