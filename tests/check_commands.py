@@ -90,9 +90,23 @@ def check_benches(checks):
         checks.hold(done.returncode == 0, f"{script}: status {done.returncode}\n{done.stderr}")
 
 
+def check_plots(checks):
+    """The pictures of docs/ are those of bench/figures.json, and small work can be measured and drawn."""
+    with tempfile.TemporaryDirectory() as place:
+        done = run([sys.executable, "bench/plot.py", "--to", place])
+        checks.hold(done.returncode == 0, f"bench/plot.py: status {done.returncode}\n{done.stderr}")
+        for drawn in pathlib.Path(place).iterdir():
+            kept = TOP / "docs" / drawn.name
+            checks.hold(kept.exists() and kept.read_text() == drawn.read_text(), f"docs/{drawn.name} isn't what was measured")
+        figures = str(pathlib.Path(place) / "figures.json")
+        small = ["--measure", "--largest", "16000", "--times", "1", "--figures", figures, "--to", place]
+        done = run([sys.executable, "bench/plot.py", *small])
+        checks.hold(done.returncode == 0, f"bench/plot.py --measure: status {done.returncode}\n{done.stderr}")
+
+
 def main():
     checks = Checks()
-    for check in (check_built, check_unbuilt, check_build, check_benches):
+    for check in (check_built, check_unbuilt, check_build, check_benches, check_plots):
         check(checks)
     checks.hold(run(["rt", "version"]).returncode == 0, "rt version fails")
     print(f"{checks.passed} passed, {checks.failed} failed")
