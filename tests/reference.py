@@ -169,10 +169,10 @@ def after(accounts, sums, key):
 
 
 def offences(accounts, sums):
-    for word, kept in (("insufficient", sums.debits), ("overflow", sums.credits)):
-        found = [(word, key) for key, total in kept.items() if total > MAX]
-        if found:
-            return found
+    kinds = (("insufficient", sums.debits), ("overflow", sums.credits))
+    found = [(word, key) for word, kept in kinds for key, total in kept.items() if total > MAX]
+    if found:
+        return found
     ends = ((after(accounts, sums, key), key) for key in sums.debits)
     return [(end, key) for end, key in ends if isinstance(end, str)]
 
