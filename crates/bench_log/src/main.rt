@@ -118,7 +118,9 @@ fn is_right<H: Hasher>(
 ) -> bool
     requires some { 0 < length ops.now }
     requires within { start + length ops.now ≤ size }
-    ensures { IsTrue result ↔ RangeOk H.digest root.now proof.now.leaves proof.now.inactive_peaks proof.now.digests size start (map any_spelling ops.now) }
+    ensures { IsTrue result
+        ↔ RangeOk H.digest root.now proof.now.leaves proof.now.inactive_peaks proof.now.digests size start
+        (map any_spelling ops.now) }
 {
     check_range::<H, AnyOp>(root, proof, size, start, ops).is_ok()
 }
@@ -126,7 +128,8 @@ fn is_right<H: Hasher>(
 /// Proves the range from this place on, and says whether the proof is right, as it always is.
 fn prove_at(log: &AnyLog, start: Location, span: NonZeroU64) -> Result<bool, LogFault>
     requires { start < log_size log.now }
-    ensures refusal { MatchOption (range_refusal log.now (log_size log.now) start) (IsOkUnless result LogFault.OutOfMemory) (λ fault. result ≡ Err fault) }
+    ensures refusal { MatchOption (range_refusal log.now (log_size log.now) start)
+        (IsOkUnless result LogFault.OutOfMemory) (λ fault. result ≡ Err fault) }
     ensures right { IfOk result (λ right. right ≡ true) }
 {
     let size = log.size();

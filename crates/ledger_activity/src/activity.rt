@@ -99,7 +99,8 @@ fn bit_before<H: Hasher>(
 ) -> Result<bool, OutOfMemory>
     requires most { index < length log.now.ops }
     requires later { IsLater later.old (drop (index + 1) log.now.ops) }
-    ensures active { IfOk result (λ active. activity (drop index log.now.ops) ≡ active ∷ activity (drop (index + 1) log.now.ops)) }
+    ensures active { IfOk result
+        (λ active. activity (drop index log.now.ops) ≡ active ∷ activity (drop (index + 1) log.now.ops)) }
     ensures later { OnOk result (IsLater later.new (drop index log.now.ops)) }
 {
     let _size = log.size();

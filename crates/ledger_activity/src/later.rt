@@ -28,7 +28,9 @@ impl Later {
 
     /// Whether the operation is active before those that were met, of which it then is the first.
     pub(crate) fn meet(&mut self, op: &AnyOp) -> Result<bool, OutOfMemory>
-        ensures active { (ops : Items Op) → IsLater self.old ops → IfOk result (λ active. active ≡ is_active op.now ops) }
+        ensures active { (ops : Items Op) →
+            IsLater self.old ops →
+            IfOk result (λ active. active ≡ is_active op.now ops) }
         ensures met { (ops : Items Op) → IsLater self.old ops → OnOk result (IsLater self.new (op.now ∷ ops)) }
     {
         match op {

@@ -14,7 +14,9 @@ pub fn admit<F: Family>(
     current: Location,
     ops: &[F::Op],
 ) -> Result<Location, LogFault>
-    ensures refusal { MatchOption (batch_refusal size current (length ops.now) (batch_floor F.floor_of ops.now)) (IsOk result) (λ fault. result ≡ Err fault) }
+    ensures refusal { MatchOption
+        (batch_refusal size current (length ops.now) (batch_floor F.floor_of ops.now)) (IsOk result)
+        (λ fault. result ≡ Err fault) }
     ensures floor { IfOk result (λ floor. batch_floor F.floor_of ops.now ≡ Some floor) }
     ensures within { IfOk result (λ floor. floor < size + length ops.now) }
     ensures most { OnOk result (size + length ops.now ≤ 2 ^ 62) }

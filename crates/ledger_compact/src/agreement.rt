@@ -76,7 +76,9 @@ fn give<F: CompactFamily, H: Hasher>(
 
 /// The fault of an answer, None of Ok.
 fn answer_of(answer: Result<(), LogFault>) -> Result<Option<LogFault>, OutOfMemory>
-    ensures fault { (refusal : Option Fault) → MatchOption refusal (IsOkUnless answer LogFault.OutOfMemory) (λ fault. answer ≡ Err fault) → IfOk result (λ given. given ≡ refusal) }
+    ensures fault { (refusal : Option Fault) →
+        MatchOption refusal (IsOkUnless answer LogFault.OutOfMemory) (λ fault. answer ≡ Err fault) →
+        IfOk result (λ given. given ≡ refusal) }
     ensures ok { IfOk result (λ given. MatchOption given (IsOk answer) (λ fault. answer ≡ Err fault)) }
 {
     match answer {

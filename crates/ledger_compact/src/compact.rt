@@ -65,7 +65,8 @@ impl<F: CompactFamily, H: Hasher> CompactLog<F, H> {
         target: &CompactTarget,
         state: CompactState<F::Op>,
     ) -> Result<CompactLog<F, H>, LogFault>
-        ensures refusal { MatchOption (state_refusal H.digest F.Op.spelling F.floor_of target.now state) (IsOk result) (λ fault. result ≡ Err fault) }
+        ensures refusal { MatchOption (state_refusal H.digest F.Op.spelling F.floor_of target.now state)
+            (IsOk result) (λ fault. result ≡ Err fault) }
         ensures ok { IfOk result (λ log. log ≡ view_of state) }
         ensures same { IfOk result (λ log. state ≡ state_of log) }
     {
@@ -139,9 +140,12 @@ impl<F: CompactFamily, H: Hasher> CompactLog<F, H> {
     /// last operation isn't the batch's one commit, where its floor is below the log's, where its floor is
     /// above its own place, and where the log would be too long. All or nothing.
     pub fn append_batch(&mut self, ops: &[F::Op]) -> Result<(), LogFault>
-        ensures refusal { MatchOption (compact_refusal F.floor_of self.old ops.now) (IsOkUnless result LogFault.OutOfMemory) (λ fault. result ≡ Err fault) }
+        ensures refusal { MatchOption (compact_refusal F.floor_of self.old ops.now)
+            (IsOkUnless result LogFault.OutOfMemory) (λ fault. result ≡ Err fault) }
         ensures ok { IfOk result (λ _. self.new ≡ with_batch H.digest F.Op.spelling self.old ops.now) }
-        ensures stands { OnOk result ((log : LogView F.Op) → compact_of H.digest F.Op.spelling log ≡ Some self.old → compact_of H.digest F.Op.spelling (with_ops log ops.now) ≡ Some self.new) }
+        ensures stands { OnOk result ((log : LogView F.Op) →
+            compact_of H.digest F.Op.spelling log ≡ Some self.old →
+            compact_of H.digest F.Op.spelling (with_ops log ops.now) ≡ Some self.new) }
         ensures err { OnErr result (self.new ≡ self.old) }
     {
         let floor = match admit::<F>(self.size(), self.floor, ops) {
@@ -186,7 +190,9 @@ impl<F: CompactFamily, H: Hasher> CompactLog<F, H> {
     pub fn state(&self) -> Result<CompactState<F::Op>, LogFault>
         ensures may { IsOkUnless result LogFault.OutOfMemory }
         ensures ok { IfOk result (λ state. state ≡ state_of self.now) }
-        ensures taken { state_refusal H.digest F.Op.spelling F.floor_of (target_of H.digest self.now) (state_of self.now) ≡ None }
+        ensures taken { state_refusal H.digest F.Op.spelling F.floor_of (target_of H.digest self.now)
+            (state_of self.now)
+            ≡ None }
     {
         let size = self.peaks.size();
         let nodes = Vec::from_slice(self.alloc, self.peaks.nodes())?;

@@ -24,8 +24,11 @@ pub(crate) fn peaks_after<H: Hasher, T: Leaf + Copy>(
 ) -> Result<NewPeaks<H>, OutOfMemory>
     requires { peaks.now.size + length others.now + 1 ≤ 2 ^ 62 }
     ensures size { IfOk result (λ g. g.peaks.size ≡ peaks.now.size + length others.now + 1) }
-    ensures before { IfOk result (λ g. g.before.items ≡ grow H.digest peaks.now.size peaks.now.nodes (map T.spelling others.now)) }
-    ensures nodes { IfOk result (λ g. g.peaks.nodes ≡ grow H.digest peaks.now.size peaks.now.nodes (map T.spelling (others.now ++ last.now ∷ []))) }
+    ensures before { IfOk result
+        (λ g. g.before.items ≡ grow H.digest peaks.now.size peaks.now.nodes (map T.spelling others.now)) }
+    ensures nodes { IfOk result (λ g.
+        g.peaks.nodes
+        ≡ grow H.digest peaks.now.size peaks.now.nodes (map T.spelling (others.now ++ last.now ∷ []))) }
 {
     let earlier = peaks.copy()?.extended(others)?;
     let before = Vec::from_slice(alloc, earlier.nodes())?;
@@ -37,7 +40,8 @@ pub(crate) fn peaks_after<H: Hasher, T: Leaf + Copy>(
 pub(crate) fn pushed<H: Hasher, T: Leaf>(peaks: Peaks<H>, op: &T) -> Result<Peaks<H>, OutOfMemory>
     requires { peaks.size + 1 ≤ 2 ^ 62 }
     ensures size { IfOk result (λ p. p.size ≡ peaks.size + 1) }
-    ensures nodes { IfOk result (λ p. p.nodes ≡ push H.digest peaks.size peaks.nodes (leaf H.digest peaks.size (T.spelling op.now))) }
+    ensures nodes { IfOk result (λ p.
+        p.nodes ≡ push H.digest peaks.size peaks.nodes (leaf H.digest peaks.size (T.spelling op.now))) }
 {
     let mut peaks = peaks;
     let digest = hash_item::<H, T>(peaks.size(), op);

@@ -23,7 +23,9 @@ pub trait CompactSyncable<F: CompactFamily, H: Hasher> {
     fn state(&self) -> Result<CompactState<F::Op>, LogFault>
         ensures may { IsOkUnless result LogFault.OutOfMemory }
         ensures ok { IfOk result (λ state. option_map state_of (kept self.now) ≡ Some state) }
-        ensures taken { (log : CompactView F.Op) → kept self.now ≡ Some log → state_refusal H.digest F.Op.spelling F.floor_of (target_of H.digest log) (state_of log) ≡ None };
+        ensures taken { (log : CompactView F.Op) →
+            kept self.now ≡ Some log →
+            state_refusal H.digest F.Op.spelling F.floor_of (target_of H.digest log) (state_of log) ≡ None };
 }
 
 impl<F: CompactFamily, H: Hasher> CompactSyncable<F, H> for CompactLog<F, H> {
@@ -74,7 +76,9 @@ impl<F: CompactFamily, H: Hasher> CompactSyncable<F, H> for Log<F, H> {
 fn last_place<F: CompactFamily, H: Hasher>(log: &Log<F, H>) -> Location
     ensures next { result + 1 ≡ log_size log.now }
     ensures least { log.now.front ≤ result }
-    ensures taken { (c : CompactView F.Op) → compact_of H.digest F.Op.spelling log.now ≡ Some c → state_refusal H.digest F.Op.spelling F.floor_of (target_of H.digest c) (state_of c) ≡ None }
+    ensures taken { (c : CompactView F.Op) →
+        compact_of H.digest F.Op.spelling log.now ≡ Some c →
+        state_refusal H.digest F.Op.spelling F.floor_of (target_of H.digest c) (state_of c) ≡ None }
 {
     let _front = log.front();
     let _floor = log.floor();

@@ -15,8 +15,13 @@ pub(crate) fn add<F: ExampleFamily, L: BatchStore<F>>(
     log: &mut L,
     operations: Vec<F::Op>,
 ) -> Result<(), LogFault>
-    ensures refusal { MatchOption (first_refusal F.floor_of (L.size_of log.old) (L.last_floor_of log.old) (added_batches F.floor_of F.added_of (L.last_floor_of log.old) operations.items)) (IsOkUnless result LogFault.OutOfMemory) (λ fault. result ≡ Err fault) }
-    ensures ok { OnOk result (log.new ≡ with_batches L.appended log.old (added_batches F.floor_of F.added_of (L.last_floor_of log.old) operations.items)) }
+    ensures refusal { MatchOption
+        (first_refusal F.floor_of (L.size_of log.old) (L.last_floor_of log.old)
+        (added_batches F.floor_of F.added_of (L.last_floor_of log.old) operations.items))
+        (IsOkUnless result LogFault.OutOfMemory) (λ fault. result ≡ Err fault) }
+    ensures ok { OnOk result (log.new
+        ≡ with_batches L.appended log.old
+        (added_batches F.floor_of F.added_of (L.last_floor_of log.old) operations.items)) }
     ensures err { OnErr result (log.new ≡ log.old) }
 {
     if !ends_with_commit::<F>(operations.as_slice()) {
@@ -29,7 +34,10 @@ pub(crate) fn add<F: ExampleFamily, L: BatchStore<F>>(
 
 /// Appends the batches of these operations, or leaves the log as it was.
 fn append_all<F: Family, L: BatchStore<F>>(log: &mut L, ops: &[F::Op]) -> Result<(), LogFault>
-    ensures refusal { MatchOption (first_refusal F.floor_of (L.size_of log.old) (L.last_floor_of log.old) (batches_of F.floor_of ops.now)) (IsOkUnless result LogFault.OutOfMemory) (λ fault. result ≡ Err fault) }
+    ensures refusal { MatchOption
+        (first_refusal F.floor_of (L.size_of log.old) (L.last_floor_of log.old)
+        (batches_of F.floor_of ops.now))
+        (IsOkUnless result LogFault.OutOfMemory) (λ fault. result ≡ Err fault) }
     ensures ok { OnOk result (log.new ≡ with_batches L.appended log.old (batches_of F.floor_of ops.now)) }
     ensures err { OnErr result (log.new ≡ log.old) }
 {
@@ -79,7 +87,8 @@ fn first_batch<F: Family>(ops: &[F::Op]) -> usize
 /// Tests the batches of these operations against a log of this size and floor, one after another. It takes no
 /// memory.
 fn test_all<F: Family>(size: Location, floor: Location, ops: &[F::Op]) -> Result<(), LogFault>
-    ensures { MatchOption (first_refusal F.floor_of size floor (batches_of F.floor_of ops.now)) (IsOk result) (λ fault. result ≡ Err fault) }
+    ensures { MatchOption (first_refusal F.floor_of size floor (batches_of F.floor_of ops.now))
+        (IsOk result) (λ fault. result ≡ Err fault) }
 {
     let mut size = size;
     let mut floor = floor;
@@ -102,7 +111,9 @@ pub(crate) fn extend_log<F: Family, H: Hasher>(
     log: &mut Log<F, H>,
     ops: &[F::Op],
 ) -> Result<(), LogFault>
-    requires { first_refusal F.floor_of (log_size log.old) (log_floor F.floor_of log.old) (batches_of F.floor_of ops.now) ≡ None }
+    requires { first_refusal F.floor_of (log_size log.old) (log_floor F.floor_of log.old)
+        (batches_of F.floor_of ops.now)
+        ≡ None }
     ensures may { IsOkUnless result LogFault.OutOfMemory }
     ensures ok { OnOk result (log.new ≡ with_batches with_ops log.old (batches_of F.floor_of ops.now)) }
     ensures err { OnErr result (log.new ≡ log.old) }
@@ -116,7 +127,9 @@ pub(crate) fn extend_log<F: Family, H: Hasher>(
 /// The same of some operations.
 fn append_run<F: Family, H: Hasher>(log: &mut Log<F, H>, ops: &[F::Op]) -> Result<(), LogFault>
     requires some { 0 < length ops.now }
-    requires taken { first_refusal F.floor_of (log_size log.old) (log_floor F.floor_of log.old) (batches_of F.floor_of ops.now) ≡ None }
+    requires taken { first_refusal F.floor_of (log_size log.old) (log_floor F.floor_of log.old)
+        (batches_of F.floor_of ops.now)
+        ≡ None }
     ensures may { IsOkUnless result LogFault.OutOfMemory }
     ensures ok { OnOk result (log.new ≡ with_batches with_ops log.old (batches_of F.floor_of ops.now)) }
     ensures err { OnErr result (log.new ≡ log.old) }
@@ -129,9 +142,12 @@ pub(crate) fn extend_compact<F: CompactFamily, H: Hasher>(
     log: &mut CompactLog<F, H>,
     ops: &[F::Op],
 ) -> Result<(), LogFault>
-    requires { first_refusal F.floor_of log.old.size (floor_or_zero (F.floor_of log.old.last)) (batches_of F.floor_of ops.now) ≡ None }
+    requires { first_refusal F.floor_of log.old.size (floor_or_zero (F.floor_of log.old.last))
+        (batches_of F.floor_of ops.now)
+        ≡ None }
     ensures may { IsOkUnless result LogFault.OutOfMemory }
-    ensures ok { OnOk result (log.new ≡ with_batches (with_batch H.digest F.Op.spelling) log.old (batches_of F.floor_of ops.now)) }
+    ensures ok { OnOk result (log.new
+        ≡ with_batches (with_batch H.digest F.Op.spelling) log.old (batches_of F.floor_of ops.now)) }
     ensures err { OnErr result (log.new ≡ log.old) }
 {
     match grown(log, ops) {
@@ -148,9 +164,12 @@ fn grown<F: CompactFamily, H: Hasher>(
     log: &CompactLog<F, H>,
     ops: &[F::Op],
 ) -> Result<CompactLog<F, H>, LogFault>
-    requires { first_refusal F.floor_of log.now.size (floor_or_zero (F.floor_of log.now.last)) (batches_of F.floor_of ops.now) ≡ None }
+    requires { first_refusal F.floor_of log.now.size (floor_or_zero (F.floor_of log.now.last))
+        (batches_of F.floor_of ops.now)
+        ≡ None }
     ensures may { IsOkUnless result LogFault.OutOfMemory }
-    ensures ok { IfOk result (λ new. new ≡ with_batches (with_batch H.digest F.Op.spelling) log.now (batches_of F.floor_of ops.now)) }
+    ensures ok { IfOk result (λ new.
+        new ≡ with_batches (with_batch H.digest F.Op.spelling) log.now (batches_of F.floor_of ops.now)) }
 {
     let mut grown = match log.copy() {
         Ok(copy) => copy,

@@ -19,9 +19,20 @@ pub fn agree<F: CompactExampleFamily, H: Hasher>(
     requires { compact_of H.digest F.Op.spelling full.now ≡ Some compact.now }
     ensures root { result ≡ true }
     ensures size { compact.now.size ≡ log_size full.now }
-    ensures floor { F.floor_shown (floor_or_zero (F.floor_of compact.now.last)) compact.now.size ≡ F.floor_shown (log_floor F.floor_of full.now) (log_size full.now) }
-    ensures refusal { (ops : Items F.Op) → first_refusal F.floor_of compact.now.size (floor_or_zero (F.floor_of compact.now.last)) (added_batches F.floor_of F.added_of (floor_or_zero (F.floor_of compact.now.last)) ops) ≡ first_refusal F.floor_of (log_size full.now) (log_floor F.floor_of full.now) (added_batches F.floor_of F.added_of (log_floor F.floor_of full.now) ops) }
-    ensures after { (ops : Items F.Op) → first_refusal F.floor_of (log_size full.now) (log_floor F.floor_of full.now) (added_batches F.floor_of F.added_of (log_floor F.floor_of full.now) ops) ≡ None → compact_of H.digest F.Op.spelling (with_batches with_ops full.now (added_batches F.floor_of F.added_of (log_floor F.floor_of full.now) ops)) ≡ Some (with_batches (with_batch H.digest F.Op.spelling) compact.now (added_batches F.floor_of F.added_of (floor_or_zero (F.floor_of compact.now.last)) ops)) }
+    ensures floor { F.floor_shown (floor_or_zero (F.floor_of compact.now.last)) compact.now.size
+        ≡ F.floor_shown (log_floor F.floor_of full.now) (log_size full.now) }
+    ensures refusal { (ops : Items F.Op) →
+        first_refusal F.floor_of compact.now.size (floor_or_zero (F.floor_of compact.now.last))
+        (added_batches F.floor_of F.added_of (floor_or_zero (F.floor_of compact.now.last)) ops)
+        ≡ first_refusal F.floor_of (log_size full.now) (log_floor F.floor_of full.now)
+        (added_batches F.floor_of F.added_of (log_floor F.floor_of full.now) ops) }
+    ensures after { (ops : Items F.Op) →
+        first_refusal F.floor_of (log_size full.now) (log_floor F.floor_of full.now)
+        (added_batches F.floor_of F.added_of (log_floor F.floor_of full.now) ops) ≡ None →
+        compact_of H.digest F.Op.spelling (with_batches with_ops full.now
+        (added_batches F.floor_of F.added_of (log_floor F.floor_of full.now) ops))
+        ≡ Some (with_batches (with_batch H.digest F.Op.spelling) compact.now
+        (added_batches F.floor_of F.added_of (floor_or_zero (F.floor_of compact.now.last)) ops)) }
 {
     full.root() == compact.root()
 }

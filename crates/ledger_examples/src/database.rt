@@ -63,7 +63,8 @@ pub trait ExampleDatabase<F: ExampleFamily>: BatchStore<F> {
         requires count { count ≤ 2 ^ 32 }
         requires start { starting_loc ≤ 2 ^ 32 }
         ensures may { IsOkUnless result LogFault.OutOfMemory }
-        ensures ok { IfOk result (λ ops. ops.items ≡ test_operations F.test_of F.test_commit_of seed starting_loc count) }
+        ensures ok { IfOk result
+            (λ ops. ops.items ≡ test_operations F.test_of F.test_commit_of seed starting_loc count) }
     {
         let start = Location::ZERO.plus(starting_loc);
         Ok(make_operations::<F>(alloc, count, seed, start)?)
@@ -73,8 +74,13 @@ pub trait ExampleDatabase<F: ExampleFamily>: BatchStore<F> {
     /// end with one. Any and current put the log's floor for the floor of each commit. Refused as the first
     /// refused batch is, and then nothing is added.
     final fn add_operations(&mut self, operations: Vec<F::Op>) -> Result<(), LogFault>
-        ensures refusal { MatchOption (first_refusal F.floor_of (Self.size_of self.old) (Self.last_floor_of self.old) (added_batches F.floor_of F.added_of (Self.last_floor_of self.old) operations.items)) (IsOkUnless result LogFault.OutOfMemory) (λ fault. result ≡ Err fault) }
-        ensures ok { OnOk result (self.new ≡ with_batches Self.appended self.old (added_batches F.floor_of F.added_of (Self.last_floor_of self.old) operations.items)) }
+        ensures refusal { MatchOption
+            (first_refusal F.floor_of (Self.size_of self.old) (Self.last_floor_of self.old)
+            (added_batches F.floor_of F.added_of (Self.last_floor_of self.old) operations.items))
+            (IsOkUnless result LogFault.OutOfMemory) (λ fault. result ≡ Err fault) }
+        ensures ok { OnOk result (self.new
+            ≡ with_batches Self.appended self.old
+            (added_batches F.floor_of F.added_of (Self.last_floor_of self.old) operations.items)) }
         ensures err { OnErr result (self.new ≡ self.old) }
     {
         add::<F, Self>(self, operations)

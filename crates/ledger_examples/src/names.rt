@@ -27,7 +27,8 @@ impl SyncMode {
 
     /// The mode of this name in letters of either case, None exactly of another.
     pub fn parse(text: &str) -> Option<SyncMode>
-        ensures { MatchOption result ((mode : Mode) → Reads text.now (mode_name mode) → ⊥) (λ mode. Reads text.now (mode_name mode)) }
+        ensures { MatchOption result ((mode : Mode) → Reads text.now (mode_name mode) → ⊥)
+            (λ mode. Reads text.now (mode_name mode)) }
     {
         if text.eq_ignore_ascii_case("full") {
             Some(SyncMode::Full)
@@ -67,7 +68,8 @@ impl DatabaseType {
 
     /// The family of this name in letters of either case, None exactly of another.
     pub fn parse(text: &str) -> Option<DatabaseType>
-        ensures { MatchOption result ((database : Database) → Reads text.now (database_name database) → ⊥) (λ database. Reads text.now (database_name database)) }
+        ensures { MatchOption result ((database : Database) → Reads text.now (database_name database) → ⊥)
+            (λ database. Reads text.now (database_name database)) }
     {
         if text.eq_ignore_ascii_case("any") {
             Some(DatabaseType::Any)
@@ -123,7 +125,8 @@ impl StorageKind {
 
     /// The kind of this name in letters of either case, None exactly of another.
     pub fn parse(text: &str) -> Option<StorageKind>
-        ensures { MatchOption result ((kind : Kind) → Reads text.now (storage_name kind) → ⊥) (λ kind. Reads text.now (storage_name kind)) }
+        ensures { MatchOption result ((kind : Kind) → Reads text.now (storage_name kind) → ⊥)
+            (λ kind. Reads text.now (storage_name kind)) }
     {
         if text.eq_ignore_ascii_case("full") {
             Some(StorageKind::Full)

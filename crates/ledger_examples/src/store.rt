@@ -39,7 +39,9 @@ pub trait BatchStore<F: Family>: Drop {
     /// Appends operations, each run up to a commit as one batch, where the log takes all these batches: all of
     /// them or, where memory is refused, none. It costs what is appended.
     fn take_batches(&mut self, ops: &[F::Op]) -> Result<(), LogFault>
-        requires { first_refusal F.floor_of (size_of self.old) (last_floor_of self.old) (batches_of F.floor_of ops.now) ≡ None }
+        requires { first_refusal F.floor_of (size_of self.old) (last_floor_of self.old)
+            (batches_of F.floor_of ops.now)
+            ≡ None }
         ensures may { IsOkUnless result LogFault.OutOfMemory }
         ensures ok { OnOk result (self.new ≡ with_batches appended self.old (batches_of F.floor_of ops.now)) }
         ensures err { OnErr result (self.new ≡ self.old) };

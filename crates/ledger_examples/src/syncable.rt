@@ -36,16 +36,30 @@ pub trait Syncable<F: Family, H: Hasher> {
         max_ops: NonZeroU64,
     ) -> Result<(Proof, Vec<F::Op>), LogFault>
         requires { start_loc < op_count }
-        ensures refusal { MatchOption (range_refusal (log self.now) op_count start_loc) (IsOkUnless result LogFault.OutOfMemory) (λ fault. result ≡ Err fault) }
-        ensures ops { IfOk result (λ r. r.1.items ≡ log_range (log self.now) start_loc (min (non_zero_u64_get max_ops) (op_count - start_loc))) }
+        ensures refusal { MatchOption (range_refusal (log self.now) op_count start_loc)
+            (IsOkUnless result LogFault.OutOfMemory) (λ fault. result ≡ Err fault) }
+        ensures ops { IfOk result (λ r.
+            r.1.items
+            ≡ log_range (log self.now) start_loc
+            (min (non_zero_u64_get max_ops) (op_count - start_loc))) }
         ensures count { IfOk result (λ r. length r.1.items ≡ min (non_zero_u64_get max_ops) (op_count - start_loc)) }
-        ensures exact { IfOk result (λ r. r.0 ≡ record { leaves = op_count; inactive_peaks = 0; digests = proof_digests H.digest (log_list H.digest F.Op.spelling (log self.now)) op_count start_loc (min (non_zero_u64_get max_ops) (op_count - start_loc)) }) }
-        ensures holds { IfOk result (λ r. RangeOk H.digest (log_root_at H.digest F.Op.spelling (log self.now) op_count) r.0.leaves r.0.inactive_peaks r.0.digests op_count start_loc (map F.Op.spelling r.1.items)) };
+        ensures exact { IfOk result (λ r.
+            r.0
+            ≡ record {
+              leaves = op_count;
+              inactive_peaks = 0;
+              digests = proof_digests H.digest (log_list H.digest F.Op.spelling (log self.now))
+                  op_count start_loc (min (non_zero_u64_get max_ops) (op_count - start_loc));
+            }) }
+        ensures holds { IfOk result (λ r.
+            RangeOk H.digest (log_root_at H.digest F.Op.spelling (log self.now) op_count) r.0.leaves
+            r.0.inactive_peaks r.0.digests op_count start_loc (map F.Op.spelling r.1.items)) };
 
     /// The peaks of the first `loc` operations. Refused where `loc` is above the size, else where it is below
     /// the front.
     fn pinned_nodes_at(&self, loc: Location) -> Result<Vec<Digest>, LogFault>
-        ensures refusal { MatchOption (range_refusal (log self.now) loc loc) (IsOkUnless result LogFault.OutOfMemory) (λ fault. result ≡ Err fault) }
+        ensures refusal { MatchOption (range_refusal (log self.now) loc loc)
+            (IsOkUnless result LogFault.OutOfMemory) (λ fault. result ≡ Err fault) }
         ensures nodes { IfOk result (λ nodes. nodes.items ≡ log_peaks_at H.digest F.Op.spelling (log self.now) loc) }
         ensures count { IfOk result (λ nodes. length nodes.items ≡ count_ones loc) };
 }

@@ -41,7 +41,8 @@ fn make_entry(index: &mut Index, key: Option<Key>) -> Result<(), OutOfMemory>
 pub(crate) fn note<F: Family>(index: &mut Index, ops: &[F::Op], start: u64)
     requires room { All (λ op. HasEntry index.old (key_written (F.write_of op))) ops.now }
     requires most { start + length ops.now ≤ 2 ^ 62 }
-    ensures { (k : Items ℕ) → end_at index.new k ≡ end_after start (end_at index.old k) (last_write F.write_of k ops.now) }
+    ensures { (k : Items ℕ) →
+        end_at index.new k ≡ end_after start (end_at index.old k) (last_write F.write_of k ops.now) }
 {
     let mut end = start;
     for op in ops {

@@ -63,7 +63,9 @@ impl<F: Family, H: Hasher> Log<F, H> {
         start: Location,
         ops: Vec<F::Op>,
     ) -> Result<Log<F, H>, LogFault>
-        ensures refusal { MatchOption (parts_refusal F.floor_of (record { front = start; pinned = pinned.items; ops = ops.items })) (IsOkUnless result LogFault.OutOfMemory) (λ fault. result ≡ Err fault) }
+        ensures refusal { MatchOption
+            (parts_refusal F.floor_of (record { front = start; pinned = pinned.items; ops = ops.items }))
+            (IsOkUnless result LogFault.OutOfMemory) (λ fault. result ≡ Err fault) }
         ensures ok { IfOk result (λ log. log ≡ record { front = start; pinned = pinned.items; ops = ops.items }) }
     {
         let needed = start.get().count_ones() as usize;
@@ -84,7 +86,10 @@ impl<F: Family, H: Hasher> Log<F, H> {
         ops: Vec<F::Op>,
     ) -> Result<Log<F, H>, LogFault>
         requires { list.leaves ≡ leaves_from H.digest list.front (map F.Op.spelling ops.items) }
-        ensures refusal { MatchOption (parts_refusal F.floor_of (record { front = list.front; pinned = list.pinned; ops = ops.items })) (IsOkUnless result LogFault.OutOfMemory) (λ fault. result ≡ Err fault) }
+        ensures refusal { MatchOption
+            (parts_refusal F.floor_of
+            (record { front = list.front; pinned = list.pinned; ops = ops.items }))
+            (IsOkUnless result LogFault.OutOfMemory) (λ fault. result ≡ Err fault) }
         ensures ok { IfOk result (λ log. log ≡ record { front = list.front; pinned = list.pinned; ops = ops.items }) }
     {
         let floor = floor_behind::<F>(list.front(), ops.as_slice())?;
@@ -170,7 +175,8 @@ impl<F: Family, H: Hasher> Log<F, H> {
 
     /// The operation at this place, None exactly outside front to size.
     pub fn op_at(&self, loc: Location) -> Option<&F::Op>
-        ensures { MatchOption result ((loc < self.now.front) ⊎ (log_size self.now ≤ loc)) (λ op. (self.now.front ≤ loc) × (slice_get self.now.ops (loc - self.now.front) ≡ Some op.now)) }
+        ensures { MatchOption result ((loc < self.now.front) ⊎ (log_size self.now ≤ loc))
+            (λ op. (self.now.front ≤ loc) × (slice_get self.now.ops (loc - self.now.front) ≡ Some op.now)) }
     {
         let place = loc.get().checked_sub(self.list.front().get())?;
         self.ops.as_slice().get(place as usize)
@@ -180,8 +186,15 @@ impl<F: Family, H: Hasher> Log<F, H> {
     /// last operation isn't the batch's one commit, where its floor is below the log's, where its floor is
     /// above its own place, and where the log would be too long. All or nothing, in time linear in the batch.
     pub fn append_batch(&mut self, ops: &[F::Op]) -> Result<(), LogFault>
-        ensures refusal { MatchOption (append_refusal F.floor_of self.old ops.now) (IsOkUnless result LogFault.OutOfMemory) (λ fault. result ≡ Err fault) }
-        ensures ok { IfOk result (λ _. self.new ≡ record { front = self.old.front; pinned = self.old.pinned; ops = self.old.ops ++ ops.now }) }
+        ensures refusal { MatchOption (append_refusal F.floor_of self.old ops.now)
+            (IsOkUnless result LogFault.OutOfMemory) (λ fault. result ≡ Err fault) }
+        ensures ok { IfOk result (λ _.
+            self.new
+            ≡ record {
+              front = self.old.front;
+              pinned = self.old.pinned;
+              ops = self.old.ops ++ ops.now;
+            }) }
         ensures err { OnErr result (self.new ≡ self.old) }
     {
         let Some(_floor) = floor_of_batch::<F>(ops) else {
@@ -194,8 +207,15 @@ impl<F: Family, H: Hasher> Log<F, H> {
     /// `append_batch` refuses one batch of all these operations, with the commits before the last one allowed;
     /// that each batch by itself would be taken is for the caller to test.
     pub fn append_batches(&mut self, ops: &[F::Op]) -> Result<(), LogFault>
-        ensures refusal { MatchOption (batches_refusal F.floor_of self.old ops.now) (IsOkUnless result LogFault.OutOfMemory) (λ fault. result ≡ Err fault) }
-        ensures ok { IfOk result (λ _. self.new ≡ record { front = self.old.front; pinned = self.old.pinned; ops = self.old.ops ++ ops.now }) }
+        ensures refusal { MatchOption (batches_refusal F.floor_of self.old ops.now)
+            (IsOkUnless result LogFault.OutOfMemory) (λ fault. result ≡ Err fault) }
+        ensures ok { IfOk result (λ _.
+            self.new
+            ≡ record {
+              front = self.old.front;
+              pinned = self.old.pinned;
+              ops = self.old.ops ++ ops.now;
+            }) }
         ensures err { OnErr result (self.new ≡ self.old) }
     {
         let Some(floor) = floor_of_last::<F>(ops) else {
@@ -231,11 +251,23 @@ impl<F: Family, H: Hasher> Log<F, H> {
         max_ops: NonZeroU64,
     ) -> Result<(Proof, Vec<F::Op>), LogFault>
         requires { start_loc < op_count }
-        ensures refusal { MatchOption (range_refusal self.now op_count start_loc) (IsOkUnless result LogFault.OutOfMemory) (λ fault. result ≡ Err fault) }
-        ensures ops { IfOk result (λ r. r.1.items ≡ log_range self.now start_loc (min (non_zero_u64_get max_ops) (op_count - start_loc))) }
+        ensures refusal { MatchOption (range_refusal self.now op_count start_loc)
+            (IsOkUnless result LogFault.OutOfMemory) (λ fault. result ≡ Err fault) }
+        ensures ops { IfOk result (λ r.
+            r.1.items
+            ≡ log_range self.now start_loc (min (non_zero_u64_get max_ops) (op_count - start_loc))) }
         ensures count { IfOk result (λ r. length r.1.items ≡ min (non_zero_u64_get max_ops) (op_count - start_loc)) }
-        ensures exact { IfOk result (λ r. r.0 ≡ record { leaves = op_count; inactive_peaks = 0; digests = proof_digests H.digest (log_list H.digest F.Op.spelling self.now) op_count start_loc (min (non_zero_u64_get max_ops) (op_count - start_loc)) }) }
-        ensures holds { IfOk result (λ r. RangeOk H.digest (log_root_at H.digest F.Op.spelling self.now op_count) r.0.leaves r.0.inactive_peaks r.0.digests op_count start_loc (map F.Op.spelling r.1.items)) }
+        ensures exact { IfOk result (λ r.
+            r.0
+            ≡ record {
+              leaves = op_count;
+              inactive_peaks = 0;
+              digests = proof_digests H.digest (log_list H.digest F.Op.spelling self.now) op_count
+                  start_loc (min (non_zero_u64_get max_ops) (op_count - start_loc));
+            }) }
+        ensures holds { IfOk result (λ r.
+            RangeOk H.digest (log_root_at H.digest F.Op.spelling self.now op_count) r.0.leaves
+            r.0.inactive_peaks r.0.digests op_count start_loc (map F.Op.spelling r.1.items)) }
     {
         let size = self.size();
         if size.get() < op_count.get() {
@@ -255,7 +287,8 @@ impl<F: Family, H: Hasher> Log<F, H> {
     /// The peaks of the first `loc` operations. Refused where `loc` is above the size, else where it is below
     /// the front.
     pub fn pinned_nodes_at(&self, loc: Location) -> Result<Vec<Digest>, LogFault>
-        ensures refusal { MatchOption (range_refusal self.now loc loc) (IsOkUnless result LogFault.OutOfMemory) (λ fault. result ≡ Err fault) }
+        ensures refusal { MatchOption (range_refusal self.now loc loc)
+            (IsOkUnless result LogFault.OutOfMemory) (λ fault. result ≡ Err fault) }
         ensures nodes { IfOk result (λ nodes. nodes.items ≡ log_peaks_at H.digest F.Op.spelling self.now loc) }
         ensures count { IfOk result (λ nodes. length nodes.items ≡ count_ones loc) }
     {
@@ -274,7 +307,8 @@ impl<F: Family, H: Hasher> Log<F, H> {
     /// Drops the operations below `loc`, where that is above the front. Refused exactly where `loc` is above
     /// the floor. Root, size and floor stay.
     pub fn prune(&mut self, loc: Location) -> Result<(), LogFault>
-        ensures refusal { MatchOption (prune_refusal F.floor_of self.old loc) (IsOkUnless result LogFault.OutOfMemory) (λ fault. result ≡ Err fault) }
+        ensures refusal { MatchOption (prune_refusal F.floor_of self.old loc)
+            (IsOkUnless result LogFault.OutOfMemory) (λ fault. result ≡ Err fault) }
         ensures ok { IfOk result (λ _. self.new ≡ pruned H.digest F.Op.spelling self.old loc) }
         ensures size { log_size self.new ≡ log_size self.old }
         ensures root { log_root H.digest F.Op.spelling self.new ≡ log_root H.digest F.Op.spelling self.old }
@@ -295,7 +329,12 @@ impl<F: Family, H: Hasher> Log<F, H> {
     fn drop_below(&mut self, loc: Location) -> Result<(), OutOfMemory>
         requires least { self.old.front ≤ loc }
         requires most { loc ≤ log_floor F.floor_of self.old }
-        ensures ok { OnOk result (self.new ≡ record { front = loc; pinned = log_peaks_at H.digest F.Op.spelling self.old loc; ops = drop (loc - self.old.front) self.old.ops }) }
+        ensures ok { OnOk result (self.new
+            ≡ record {
+              front = loc;
+              pinned = log_peaks_at H.digest F.Op.spelling self.old loc;
+              ops = drop (loc - self.old.front) self.old.ops;
+            }) }
         ensures kept { OnOk result (KeptAbove H.digest F.Op.spelling self.old self.new) }
         ensures err { OnErr result (self.new ≡ self.old) }
     {
@@ -390,7 +429,13 @@ fn floor_of_batch<F: Family>(ops: &[F::Op]) -> Option<Location>
 /// The list with these items as leaves more. A refusal gives the list up.
 fn grown<H: Hasher, T: Leaf>(list: MerkleList<H>, items: &[T]) -> Result<MerkleList<H>, OutOfMemory>
     requires { list_size list + length items.now ≤ 2 ^ 62 }
-    ensures { IfOk result (λ grown. grown ≡ record { front = list.front; pinned = list.pinned; leaves = list.leaves ++ leaves_from H.digest (list_size list) (map T.spelling items.now) }) }
+    ensures { IfOk result (λ grown.
+        grown
+        ≡ record {
+          front = list.front;
+          pinned = list.pinned;
+          leaves = list.leaves ++ leaves_from H.digest (list_size list) (map T.spelling items.now);
+        }) }
 {
     let mut list = list;
     list.extend(items)?;
@@ -408,7 +453,13 @@ fn extend_all<F: Family, H: Hasher>(
     requires { list_size list.old + length more.now ≤ 2 ^ 62 }
     ensures same { (k : Items ℕ) → end_at index.new k ≡ end_at index.old k }
     ensures room { OnOk result (All (λ op. HasEntry index.new (key_written (F.write_of op))) more.now) }
-    ensures leaves { OnOk result (list.new ≡ record { front = list.old.front; pinned = list.old.pinned; leaves = list.old.leaves ++ leaves_from H.digest (list_size list.old) (map F.Op.spelling more.now) }) }
+    ensures leaves { OnOk result (list.new
+        ≡ record {
+          front = list.old.front;
+          pinned = list.old.pinned;
+          leaves = list.old.leaves
+              ++ leaves_from H.digest (list_size list.old) (map F.Op.spelling more.now);
+        }) }
     ensures ops { OnOk result (ops.new ≡ ops.old ++ more.now) }
     ensures err { OnErr result ((list.new ≡ list.old) × (ops.new ≡ ops.old)) }
 {
@@ -431,7 +482,13 @@ fn extend_with_room<F: Family, H: Hasher>(
     requires { list_size list.old + length more.now ≤ 2 ^ 62 }
     ensures same { (k : Items ℕ) → end_at index.new k ≡ end_at index.old k }
     ensures room { OnOk result (All (λ op. HasEntry index.new (key_written (F.write_of op))) more.now) }
-    ensures leaves { OnOk result (list.new ≡ record { front = list.old.front; pinned = list.old.pinned; leaves = list.old.leaves ++ leaves_from H.digest (list_size list.old) (map F.Op.spelling more.now) }) }
+    ensures leaves { OnOk result (list.new
+        ≡ record {
+          front = list.old.front;
+          pinned = list.old.pinned;
+          leaves = list.old.leaves
+              ++ leaves_from H.digest (list_size list.old) (map F.Op.spelling more.now);
+        }) }
     ensures ops { OnOk result (ops.new ≡ ops.old ++ more.now) }
     ensures err { OnErr result ((list.new ≡ list.old) × (ops.new ≡ ops.old)) }
 {
@@ -446,7 +503,12 @@ fn extend_both<H: Hasher, T: Leaf + Copy>(
     more: &[T],
 ) -> Result<(), OutOfMemory>
     requires { list_size list.old + length more.now ≤ 2 ^ 62 }
-    ensures leaves { OnOk result (list.new ≡ record { front = list.old.front; pinned = list.old.pinned; leaves = list.old.leaves ++ leaves_from H.digest (list_size list.old) (map T.spelling more.now) }) }
+    ensures leaves { OnOk result (list.new
+        ≡ record {
+          front = list.old.front;
+          pinned = list.old.pinned;
+          leaves = list.old.leaves ++ leaves_from H.digest (list_size list.old) (map T.spelling more.now);
+        }) }
     ensures ops { OnOk result (ops.new ≡ ops.old ++ more.now) }
     ensures err { OnErr result ((list.new ≡ list.old) × (ops.new ≡ ops.old)) }
 {

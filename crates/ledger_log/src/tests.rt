@@ -214,7 +214,8 @@ fn drop_below<H: Hasher>(
     requires front { log.old.front ≤ loc }
     requires above { loc ≤ place }
     requires within { place ≤ log_size log.old }
-    ensures { OnOk result (log_peaks_at H.digest any_spelling log.new place ≡ log_peaks_at H.digest any_spelling log.old place) }
+    ensures { OnOk result (log_peaks_at H.digest any_spelling log.new place
+        ≡ log_peaks_at H.digest any_spelling log.old place) }
 {
     log.prune(loc)?;
     Ok(())
@@ -231,7 +232,13 @@ fn keeps_its_nodes(rt: HostRuntime) -> Result<(), LogFault> {
 
 /// The leaves of these operations from place 0 on.
 fn leaves_of<H: Hasher>(alloc: Global, ops: &[AnyOp]) -> Result<MerkleList<H>, LogFault>
-    ensures { IfOk result (λ list. list ≡ record { front = 0; pinned = []; leaves = leaves_from H.digest 0 (map any_spelling ops.now) }) }
+    ensures { IfOk result (λ list.
+        list
+        ≡ record {
+          front = 0;
+          pinned = [];
+          leaves = leaves_from H.digest 0 (map any_spelling ops.now);
+        }) }
 {
     let mut list = MerkleList::new(alloc);
     list.extend(ops)?;

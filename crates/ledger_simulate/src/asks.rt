@@ -30,7 +30,8 @@ fn check_property(
     states: &[StateView],
 ) -> Result<(), Stop>
     ensures ok { OnOk result (property_complaint property.now tracker.now states.now ≡ None) }
-    ensures err { IfErr result (IsPropertyFault (property_name property.now) (property_complaint property.now tracker.now states.now)) }
+    ensures err { IfErr result (IsPropertyFault (property_name property.now)
+        (property_complaint property.now tracker.now states.now)) }
     ensures asked { IfErr result (λ s. IsTrue (stops_asked s)) }
     ensures late { IfErr result (λ s. IsTrue (stops_late s)) }
 {
@@ -52,7 +53,8 @@ pub fn check_properties(
     states: &[StateView],
 ) -> Result<(), Stop>
     ensures ok { OnOk result (All (λ p. property_complaint p tracker.now states.now ≡ None) properties.now) }
-    ensures objects { IfErr result (IsObjection (λ p. property_name p) (λ p. property_complaint p) properties.now tracker.now states.now) }
+    ensures objects { IfErr result (IsObjection (λ p. property_name p) (λ p. property_complaint p)
+        properties.now tracker.now states.now) }
     ensures asked { IfErr result (λ s. IsTrue (stops_asked s)) }
     ensures late { IfErr result (λ s. IsTrue (stops_late s)) }
 {
@@ -72,7 +74,8 @@ fn check_finalization(
     states: &[StateView],
 ) -> Result<(), Stop>
     ensures ok { OnOk result (finalization_complaint property.now states.now ≡ None) }
-    ensures err { IfErr result (IsFinalizationFault (finalization_name property.now) (finalization_complaint property.now states.now)) }
+    ensures err { IfErr result (IsFinalizationFault (finalization_name property.now)
+        (finalization_complaint property.now states.now)) }
     ensures asked { IfErr result (λ s. IsTrue (stops_asked s)) }
     ensures late { IfErr result (λ s. IsTrue (stops_late s)) }
 {
@@ -93,7 +96,8 @@ pub fn check_finalizations(
     states: &[StateView],
 ) -> Result<(), Stop>
     ensures ok { OnOk result (All (λ p. finalization_complaint p states.now ≡ None) properties.now) }
-    ensures complains { IfErr result (IsComplaint (λ p. finalization_name p) (λ p. finalization_complaint p) properties.now states.now) }
+    ensures complains { IfErr result
+        (IsComplaint (λ p. finalization_name p) (λ p. finalization_complaint p) properties.now states.now) }
     ensures asked { IfErr result (λ s. IsTrue (stops_asked s)) }
     ensures late { IfErr result (λ s. IsTrue (stops_late s)) }
 {
@@ -115,7 +119,8 @@ fn ask_condition(
     target_count: usize,
 ) -> Result<bool, Stop>
     ensures ok { IfOk result (λ reached. exit_verdict condition.now tracker.now states.now target_count ≡ Ok reached) }
-    ensures err { IfErr result (IsExitFault (exit_name condition.now) (exit_verdict condition.now tracker.now states.now target_count)) }
+    ensures err { IfErr result (IsExitFault (exit_name condition.now)
+        (exit_verdict condition.now tracker.now states.now target_count)) }
     ensures asked { IfErr result (λ s. IsTrue (stops_asked s)) }
     ensures late { IfErr result (λ s. IsTrue (stops_late s)) }
 {
@@ -138,8 +143,10 @@ pub fn ask_exit<D: EngineDefinition>(
     states: &[StateView],
     target_count: usize,
 ) -> Result<bool, Stop>
-    ensures ok { IfOk result (ExitIs (λ c. exit_verdict c) plan.now.exit_condition plan.now.required_finalizations target_count tracker.now states.now) }
-    ensures fails { IfErr result (IsFailure (λ c. exit_name c) (λ c. exit_verdict c) plan.now.exit_condition tracker.now states.now target_count) }
+    ensures ok { IfOk result (ExitIs (λ c. exit_verdict c) plan.now.exit_condition
+        plan.now.required_finalizations target_count tracker.now states.now) }
+    ensures fails { IfErr result (IsFailure (λ c. exit_name c) (λ c. exit_verdict c) plan.now.exit_condition
+        tracker.now states.now target_count) }
     ensures asked { IfErr result (λ s. IsTrue (stops_asked s)) }
     ensures late { IfErr result (λ s. IsTrue (stops_late s)) }
 {

@@ -21,7 +21,11 @@ pub struct Exercise {
 impl Exercise {
     /// Nothing yet, of so many configured failures.
     pub fn new(alloc: Global, failures: usize) -> Result<Self, OutOfMemory>
-        ensures { IfOk result (λ e. (e.crashes ≡ 0) × (e.scheduled_actions ≡ 0) × (e.delayed_started ≡ false) × (e.entered.items ≡ replicate failures false)) }
+        ensures { IfOk result (λ e.
+            (e.crashes ≡ 0)
+            × (e.scheduled_actions ≡ 0)
+            × (e.delayed_started ≡ false)
+            × (e.entered.items ≡ replicate failures false)) }
     {
         Ok(Exercise {
             crashes: 0,
@@ -43,7 +47,8 @@ impl Exercise {
 
     /// Marks the window of the configured failure at this place as entered.
     pub fn enter(&mut self, index: usize)
-        ensures tally { tally_of self.new ≡ record (tally_of self.old) { entered = set self.old.entered.items index true } }
+        ensures tally { tally_of self.new
+            ≡ record (tally_of self.old) { entered = set self.old.entered.items index true } }
         ensures started { self.new.delayed_started ≡ self.old.delayed_started }
     {
         if index < self.entered.len() {
@@ -67,7 +72,9 @@ impl Exercise {
 
     /// Whether this failure came to nothing, given whether its window was entered.
     fn missed(&self, crash: &Crash, entered: bool) -> bool
-        ensures { result ≡ is_unexercised self.now.crashes self.now.scheduled_actions self.now.delayed_started crash.now entered }
+        ensures { result
+            ≡ is_unexercised self.now.crashes self.now.scheduled_actions self.now.delayed_started crash.now
+            entered }
     {
         match crash {
             Crash::Random { .. } => self.crashes == 0,

@@ -38,14 +38,64 @@ pub fn handle<D: EngineDefinition>(
     key: (u64, u64),
     event: Event,
 ) -> Result<Option<Reached>, Stop>
-    ensures handled { IfOk result (λ o. Handles (D.peer_of plan.now.engine) (D.journal plan.now.engine) (D.reports plan.now.engine) D.State.height_of plan.now.participants plan.now.crashes (Finds (λ p. finalization_complaint p) plan.now.finalization_property D.State.height_of D.State.bytes_of (λ c. exit_verdict c) plan.now.exit_condition plan.now.required_finalizations plan.now.participants plan.now.crashes watch.old) o key event agenda.old agenda.new watch.old watch.new world.old world.new) }
+    ensures handled { IfOk result (λ o.
+        Handles (D.peer_of plan.now.engine) (D.journal plan.now.engine) (D.reports plan.now.engine)
+        D.State.height_of plan.now.participants plan.now.crashes
+        (Finds (λ p. finalization_complaint p) plan.now.finalization_property D.State.height_of
+        D.State.bytes_of (λ c. exit_verdict c) plan.now.exit_condition
+        plan.now.required_finalizations plan.now.participants plan.now.crashes watch.old)
+        o key event agenda.old agenda.new watch.old watch.new world.old world.new) }
     ensures updates { OnOk result (Extends watch.old watch.new) }
-    ensures reached { IfOk result (λ o. IfSome o (λ r. IsReached (λ c. exit_verdict c) plan.now.exit_condition plan.now.required_finalizations (target_count plan.now.participants plan.now.crashes world.new.exercise.delayed_started) watch.new r)) }
-    ensures started { IfOk result (λ o. world.new.exercise.delayed_started ≡ started_by plan.now.participants plan.now.crashes watch.old world.old.exercise.delayed_started (drop (length watch.old) watch.new) o) }
-    ensures seen { IfOk result (λ o. IfSome o (MetOn (Asked (D.peer_of plan.now.engine) (D.journal plan.now.engine) (D.reports plan.now.engine) D.State.height_of D.State.bytes_of plan.now.participants plan.now.crashes (Finds (λ p. finalization_complaint p) plan.now.finalization_property D.State.height_of D.State.bytes_of (λ c. exit_verdict c) plan.now.exit_condition plan.now.required_finalizations plan.now.participants plan.now.crashes watch.old) (told_by key event) (is_poll event) agenda.old world.old) watch.old)) }
-    ensures answers { IfOk result (λ o. IsTrue (is_poll event) → ExitIs (λ c. exit_verdict c) plan.now.exit_condition plan.now.required_finalizations (target_count plan.now.participants plan.now.crashes world.old.exercise.delayed_started) (tracker_of watch.old) (active_views D.State.height_of D.State.bytes_of world.old.seats.entries) (is_some o)) }
-    ensures comes { IfErr result (StopComes (ReportsThen (D.peer_of plan.now.engine) (D.journal plan.now.engine) (D.reports plan.now.engine) (told_by key event) agenda.old world.old) (SkipsAfter (D.peer_of plan.now.engine) (D.journal plan.now.engine) (D.reports plan.now.engine) D.State.height_of plan.now.participants plan.now.crashes (Finds (λ p. finalization_complaint p) plan.now.finalization_property D.State.height_of D.State.bytes_of (λ c. exit_verdict c) plan.now.exit_condition plan.now.required_finalizations plan.now.participants plan.now.crashes watch.old) (told_by key event) agenda.old world.old) watch.old) }
-    ensures answered { IfErr result (StopAnswered (λ p. finalization_name p) (λ p. finalization_complaint p) (λ p. property_name p) (λ p. property_complaint p) (λ c. exit_name c) (λ c. exit_verdict c) plan.now.finalization_property plan.now.property plan.now.exit_condition (SeesAfter (D.peer_of plan.now.engine) (D.journal plan.now.engine) (D.reports plan.now.engine) D.State.height_of D.State.bytes_of plan.now.participants plan.now.crashes (Finds (λ p. finalization_complaint p) plan.now.finalization_property D.State.height_of D.State.bytes_of (λ c. exit_verdict c) plan.now.exit_condition plan.now.required_finalizations plan.now.participants plan.now.crashes watch.old) (told_by key event) agenda.old world.old) (Asks (D.peer_of plan.now.engine) (D.journal plan.now.engine) (D.reports plan.now.engine) D.State.height_of D.State.bytes_of plan.now.participants plan.now.crashes (Finds (λ p. finalization_complaint p) plan.now.finalization_property D.State.height_of D.State.bytes_of (λ c. exit_verdict c) plan.now.exit_condition plan.now.required_finalizations plan.now.participants plan.now.crashes watch.old) (told_by key event) (is_poll event) watch.old agenda.old world.old) (λ more states. ⊥) watch.old) }
+    ensures reached { IfOk result (λ o.
+        IfSome o (λ r.
+        IsReached (λ c. exit_verdict c) plan.now.exit_condition plan.now.required_finalizations
+        (target_count plan.now.participants plan.now.crashes world.new.exercise.delayed_started)
+        watch.new r)) }
+    ensures started { IfOk result (λ o.
+        world.new.exercise.delayed_started
+        ≡ started_by plan.now.participants plan.now.crashes watch.old world.old.exercise.delayed_started
+        (drop (length watch.old) watch.new) o) }
+    ensures seen { IfOk result (λ o.
+        IfSome o (MetOn
+        (Asked (D.peer_of plan.now.engine) (D.journal plan.now.engine) (D.reports plan.now.engine)
+        D.State.height_of D.State.bytes_of plan.now.participants plan.now.crashes
+        (Finds (λ p. finalization_complaint p) plan.now.finalization_property D.State.height_of
+        D.State.bytes_of (λ c. exit_verdict c) plan.now.exit_condition
+        plan.now.required_finalizations plan.now.participants plan.now.crashes watch.old)
+        (told_by key event) (is_poll event) agenda.old world.old)
+        watch.old)) }
+    ensures answers { IfOk result (λ o.
+        IsTrue (is_poll event) →
+        ExitIs (λ c. exit_verdict c) plan.now.exit_condition plan.now.required_finalizations
+        (target_count plan.now.participants plan.now.crashes world.old.exercise.delayed_started)
+        (tracker_of watch.old) (active_views D.State.height_of D.State.bytes_of world.old.seats.entries)
+        (is_some o)) }
+    ensures comes { IfErr result (StopComes
+        (ReportsThen (D.peer_of plan.now.engine) (D.journal plan.now.engine) (D.reports plan.now.engine)
+        (told_by key event) agenda.old world.old)
+        (SkipsAfter (D.peer_of plan.now.engine) (D.journal plan.now.engine) (D.reports plan.now.engine)
+        D.State.height_of plan.now.participants plan.now.crashes
+        (Finds (λ p. finalization_complaint p) plan.now.finalization_property D.State.height_of
+        D.State.bytes_of (λ c. exit_verdict c) plan.now.exit_condition
+        plan.now.required_finalizations plan.now.participants plan.now.crashes watch.old)
+        (told_by key event) agenda.old world.old)
+        watch.old) }
+    ensures answered { IfErr result (StopAnswered (λ p. finalization_name p) (λ p. finalization_complaint p)
+        (λ p. property_name p) (λ p. property_complaint p) (λ c. exit_name c) (λ c. exit_verdict c)
+        plan.now.finalization_property plan.now.property plan.now.exit_condition
+        (SeesAfter (D.peer_of plan.now.engine) (D.journal plan.now.engine) (D.reports plan.now.engine)
+        D.State.height_of D.State.bytes_of plan.now.participants plan.now.crashes
+        (Finds (λ p. finalization_complaint p) plan.now.finalization_property D.State.height_of
+        D.State.bytes_of (λ c. exit_verdict c) plan.now.exit_condition
+        plan.now.required_finalizations plan.now.participants plan.now.crashes watch.old)
+        (told_by key event) agenda.old world.old)
+        (Asks (D.peer_of plan.now.engine) (D.journal plan.now.engine) (D.reports plan.now.engine)
+        D.State.height_of D.State.bytes_of plan.now.participants plan.now.crashes
+        (Finds (λ p. finalization_complaint p) plan.now.finalization_property D.State.height_of
+        D.State.bytes_of (λ c. exit_verdict c) plan.now.exit_condition
+        plan.now.required_finalizations plan.now.participants plan.now.crashes watch.old)
+        (told_by key event) (is_poll event) watch.old agenda.old world.old)
+        (λ more states. ⊥) watch.old) }
     ensures late { IfErr result (λ s. IsTrue (stops_late s)) }
 {
     match event {
@@ -136,7 +186,8 @@ fn polled_states<D: EngineDefinition>(
     agenda: &mut Agenda,
 ) -> Result<Vec<StateView>, OutOfMemory>
     ensures made { OnOk result (agenda.new ≡ record agenda.old { events = agenda.old.events ++ (25, ExitPoll) ∷ [] }) }
-    ensures views { IfOk result (λ states. states.items ≡ active_views D.State.height_of D.State.bytes_of world.now.seats.entries) }
+    ensures views { IfOk result
+        (λ states. states.items ≡ active_views D.State.height_of D.State.bytes_of world.now.seats.entries) }
 {
     agenda.after(EXIT_POLL, Event::ExitPoll)?;
     active_states(world.alloc, &world.seats)
@@ -149,12 +200,32 @@ fn poll<D: EngineDefinition>(
     watch: &Watch,
     agenda: &mut Agenda,
 ) -> Result<Option<Reached>, Stop>
-    ensures changes { OnOk result (ChangesEngines (D.peer_of plan.now.engine) agenda.old agenda.new world.now world.now) }
-    ensures reached { IfOk result (λ o. IfSome o (λ r. IsReached (λ c. exit_verdict c) plan.now.exit_condition plan.now.required_finalizations (target_count plan.now.participants plan.now.crashes world.now.exercise.delayed_started) watch.now r)) }
-    ensures seen { IfOk result (λ o. IfSome o (λ r. (r.count ≡ length watch.now) × (r.states.items ≡ active_views D.State.height_of D.State.bytes_of world.now.seats.entries))) }
-    ensures answers { IfOk result (λ o. ExitIs (λ c. exit_verdict c) plan.now.exit_condition plan.now.required_finalizations (target_count plan.now.participants plan.now.crashes world.now.exercise.delayed_started) (tracker_of watch.now) (active_views D.State.height_of D.State.bytes_of world.now.seats.entries) (is_some o)) }
+    ensures changes { OnOk result
+        (ChangesEngines (D.peer_of plan.now.engine) agenda.old agenda.new world.now world.now) }
+    ensures reached { IfOk result (λ o.
+        IfSome o (λ r.
+        IsReached (λ c. exit_verdict c) plan.now.exit_condition plan.now.required_finalizations
+        (target_count plan.now.participants plan.now.crashes world.now.exercise.delayed_started)
+        watch.now r)) }
+    ensures seen { IfOk result (λ o.
+        IfSome o (λ r.
+        (r.count ≡ length watch.now)
+        × (r.states.items ≡ active_views D.State.height_of D.State.bytes_of world.now.seats.entries))) }
+    ensures answers { IfOk result (λ o.
+        ExitIs (λ c. exit_verdict c) plan.now.exit_condition plan.now.required_finalizations
+        (target_count plan.now.participants plan.now.crashes world.now.exercise.delayed_started)
+        (tracker_of watch.now) (active_views D.State.height_of D.State.bytes_of world.now.seats.entries)
+        (is_some o)) }
     ensures asked { IfErr result (λ s. IsTrue (stops_asked s)) }
-    ensures answered { IfErr result (StopAnswered (λ p. finalization_name p) (λ p. finalization_complaint p) (λ p. property_name p) (λ p. property_complaint p) (λ c. exit_name c) (λ c. exit_verdict c) plan.now.finalization_property plan.now.property plan.now.exit_condition (λ more states. ⊥) (λ more states target. (more ≡ []) × (states ≡ active_views D.State.height_of D.State.bytes_of world.now.seats.entries) × (target ≡ target_count plan.now.participants plan.now.crashes world.now.exercise.delayed_started)) (λ more states. ⊥) watch.now) }
+    ensures answered { IfErr result (StopAnswered (λ p. finalization_name p) (λ p. finalization_complaint p)
+        (λ p. property_name p) (λ p. property_complaint p) (λ c. exit_name c) (λ c. exit_verdict c)
+        plan.now.finalization_property plan.now.property plan.now.exit_condition (λ more states. ⊥)
+        (λ more states target.
+        (more ≡ [])
+        × (states ≡ active_views D.State.height_of D.State.bytes_of world.now.seats.entries)
+        × (target
+        ≡ target_count plan.now.participants plan.now.crashes world.now.exercise.delayed_started))
+        (λ more states. ⊥) watch.now) }
     ensures late { IfErr result (λ s. IsTrue (stops_late s)) }
 {
     match polled_states(world, agenda) {
@@ -201,13 +272,58 @@ fn step_at<D: EngineDefinition>(
     agenda: &mut Agenda,
     told: Told,
 ) -> Result<Option<Reached>, Stop>
-    ensures told { IfOk result (λ o. Tells (D.peer_of plan.now.engine) (D.journal plan.now.engine) (D.reports plan.now.engine) D.State.height_of plan.now.participants plan.now.crashes (Finds (λ p. finalization_complaint p) plan.now.finalization_property D.State.height_of D.State.bytes_of (λ c. exit_verdict c) plan.now.exit_condition plan.now.required_finalizations plan.now.participants plan.now.crashes watch.old) o told.pk told.birth told.event agenda.old agenda.new watch.old watch.new world.old world.new) }
+    ensures told { IfOk result (λ o.
+        Tells (D.peer_of plan.now.engine) (D.journal plan.now.engine) (D.reports plan.now.engine)
+        D.State.height_of plan.now.participants plan.now.crashes
+        (Finds (λ p. finalization_complaint p) plan.now.finalization_property D.State.height_of
+        D.State.bytes_of (λ c. exit_verdict c) plan.now.exit_condition
+        plan.now.required_finalizations plan.now.participants plan.now.crashes watch.old)
+        o told.pk told.birth told.event agenda.old agenda.new watch.old watch.new world.old world.new) }
     ensures updates { OnOk result (Extends watch.old watch.new) }
-    ensures reached { IfOk result (λ o. IfSome o (λ r. IsReached (λ c. exit_verdict c) plan.now.exit_condition plan.now.required_finalizations (target_count plan.now.participants plan.now.crashes world.new.exercise.delayed_started) watch.new r)) }
-    ensures started { IfOk result (λ o. world.new.exercise.delayed_started ≡ started_by plan.now.participants plan.now.crashes watch.old world.old.exercise.delayed_started (drop (length watch.old) watch.new) o) }
-    ensures seen { IfOk result (λ o. IfSome o (MetOn (SeesAfter (D.peer_of plan.now.engine) (D.journal plan.now.engine) (D.reports plan.now.engine) D.State.height_of D.State.bytes_of plan.now.participants plan.now.crashes (Finds (λ p. finalization_complaint p) plan.now.finalization_property D.State.height_of D.State.bytes_of (λ c. exit_verdict c) plan.now.exit_condition plan.now.required_finalizations plan.now.participants plan.now.crashes watch.old) (Some (told.pk, told.birth, told.event)) agenda.old world.old) watch.old)) }
-    ensures comes { IfErr result (StopComes (ReportsThen (D.peer_of plan.now.engine) (D.journal plan.now.engine) (D.reports plan.now.engine) (Some (told.pk, told.birth, told.event)) agenda.old world.old) (SkipsAfter (D.peer_of plan.now.engine) (D.journal plan.now.engine) (D.reports plan.now.engine) D.State.height_of plan.now.participants plan.now.crashes (Finds (λ p. finalization_complaint p) plan.now.finalization_property D.State.height_of D.State.bytes_of (λ c. exit_verdict c) plan.now.exit_condition plan.now.required_finalizations plan.now.participants plan.now.crashes watch.old) (Some (told.pk, told.birth, told.event)) agenda.old world.old) watch.old) }
-    ensures answered { IfErr result (StopAnswered (λ p. finalization_name p) (λ p. finalization_complaint p) (λ p. property_name p) (λ p. property_complaint p) (λ c. exit_name c) (λ c. exit_verdict c) plan.now.finalization_property plan.now.property plan.now.exit_condition (SeesAfter (D.peer_of plan.now.engine) (D.journal plan.now.engine) (D.reports plan.now.engine) D.State.height_of D.State.bytes_of plan.now.participants plan.now.crashes (Finds (λ p. finalization_complaint p) plan.now.finalization_property D.State.height_of D.State.bytes_of (λ c. exit_verdict c) plan.now.exit_condition plan.now.required_finalizations plan.now.participants plan.now.crashes watch.old) (Some (told.pk, told.birth, told.event)) agenda.old world.old) (Asks (D.peer_of plan.now.engine) (D.journal plan.now.engine) (D.reports plan.now.engine) D.State.height_of D.State.bytes_of plan.now.participants plan.now.crashes (Finds (λ p. finalization_complaint p) plan.now.finalization_property D.State.height_of D.State.bytes_of (λ c. exit_verdict c) plan.now.exit_condition plan.now.required_finalizations plan.now.participants plan.now.crashes watch.old) (Some (told.pk, told.birth, told.event)) false watch.old agenda.old world.old) (λ more states. ⊥) watch.old) }
+    ensures reached { IfOk result (λ o.
+        IfSome o (λ r.
+        IsReached (λ c. exit_verdict c) plan.now.exit_condition plan.now.required_finalizations
+        (target_count plan.now.participants plan.now.crashes world.new.exercise.delayed_started)
+        watch.new r)) }
+    ensures started { IfOk result (λ o.
+        world.new.exercise.delayed_started
+        ≡ started_by plan.now.participants plan.now.crashes watch.old world.old.exercise.delayed_started
+        (drop (length watch.old) watch.new) o) }
+    ensures seen { IfOk result (λ o.
+        IfSome o (MetOn
+        (SeesAfter (D.peer_of plan.now.engine) (D.journal plan.now.engine) (D.reports plan.now.engine)
+        D.State.height_of D.State.bytes_of plan.now.participants plan.now.crashes
+        (Finds (λ p. finalization_complaint p) plan.now.finalization_property D.State.height_of
+        D.State.bytes_of (λ c. exit_verdict c) plan.now.exit_condition
+        plan.now.required_finalizations plan.now.participants plan.now.crashes watch.old)
+        (Some (told.pk, told.birth, told.event)) agenda.old world.old)
+        watch.old)) }
+    ensures comes { IfErr result (StopComes
+        (ReportsThen (D.peer_of plan.now.engine) (D.journal plan.now.engine) (D.reports plan.now.engine)
+        (Some (told.pk, told.birth, told.event)) agenda.old world.old)
+        (SkipsAfter (D.peer_of plan.now.engine) (D.journal plan.now.engine) (D.reports plan.now.engine)
+        D.State.height_of plan.now.participants plan.now.crashes
+        (Finds (λ p. finalization_complaint p) plan.now.finalization_property D.State.height_of
+        D.State.bytes_of (λ c. exit_verdict c) plan.now.exit_condition
+        plan.now.required_finalizations plan.now.participants plan.now.crashes watch.old)
+        (Some (told.pk, told.birth, told.event)) agenda.old world.old)
+        watch.old) }
+    ensures answered { IfErr result (StopAnswered (λ p. finalization_name p) (λ p. finalization_complaint p)
+        (λ p. property_name p) (λ p. property_complaint p) (λ c. exit_name c) (λ c. exit_verdict c)
+        plan.now.finalization_property plan.now.property plan.now.exit_condition
+        (SeesAfter (D.peer_of plan.now.engine) (D.journal plan.now.engine) (D.reports plan.now.engine)
+        D.State.height_of D.State.bytes_of plan.now.participants plan.now.crashes
+        (Finds (λ p. finalization_complaint p) plan.now.finalization_property D.State.height_of
+        D.State.bytes_of (λ c. exit_verdict c) plan.now.exit_condition
+        plan.now.required_finalizations plan.now.participants plan.now.crashes watch.old)
+        (Some (told.pk, told.birth, told.event)) agenda.old world.old)
+        (Asks (D.peer_of plan.now.engine) (D.journal plan.now.engine) (D.reports plan.now.engine)
+        D.State.height_of D.State.bytes_of plan.now.participants plan.now.crashes
+        (Finds (λ p. finalization_complaint p) plan.now.finalization_property D.State.height_of
+        D.State.bytes_of (λ c. exit_verdict c) plan.now.exit_condition
+        plan.now.required_finalizations plan.now.participants plan.now.crashes watch.old)
+        (Some (told.pk, told.birth, told.event)) false watch.old agenda.old world.old)
+        (λ more states. ⊥) watch.old) }
     ensures late { IfErr result (λ s. IsTrue (stops_late s)) }
 {
     let Told { pk, birth, event } = told;
@@ -230,7 +346,11 @@ fn step_and_send<D: EngineDefinition>(
     event: StepEvent,
 ) -> Result<Vec<FinalizationUpdate>, OutOfMemory>
     requires { IsTrue (runs world.old.seats.entries pk) }
-    ensures { IfOk result (λ updates. (out : StepOut) × Gives (D.peer_of plan.now.engine) (D.journal plan.now.engine) (D.reports plan.now.engine) pk birth event out agenda.old agenda.new world.old world.new × (updates.items ≡ updates_of pk out.finalized)) }
+    ensures { IfOk result (λ updates.
+        (out : StepOut)
+        × Gives (D.peer_of plan.now.engine) (D.journal plan.now.engine) (D.reports plan.now.engine) pk birth
+        event out agenda.old agenda.new world.old world.new
+        × (updates.items ≡ updates_of pk out.finalized)) }
 {
     let mut out = StepOut::new(world.alloc);
     match step_engine(

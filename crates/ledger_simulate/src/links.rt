@@ -32,7 +32,8 @@ impl Links {
     /// Sets the link from one peer to another. A refused call leaves the links.
     pub fn set(&mut self, from: Peer, to: Peer, link: SimLink) -> Result<(), OutOfMemory>
         ensures all { common_link self.new ≡ common_link self.old }
-        ensures ok { OnOk result (changed_links self.new ≡ insert_entry key_cmp (changed_links self.old) (from.0, to.0) link) }
+        ensures ok { OnOk result
+            (changed_links self.new ≡ insert_entry key_cmp (changed_links self.old) (from.0, to.0) link) }
         ensures err { OnErr result (changed_links self.new ≡ changed_links self.old) }
     {
         self.changed.insert((from.0, to.0), link)?;

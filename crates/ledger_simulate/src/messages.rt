@@ -33,7 +33,9 @@ fn is_carried<D: EngineDefinition>(
     from: Peer,
     message: &(Peer, u64, List<u8>),
 ) -> bool
-    ensures { result ≡ lets_through rules.now.max_size rules.now.channels.items (runs seats.now.entries) from message.now }
+    ensures { result
+        ≡ lets_through rules.now.max_size rules.now.channels.items (runs seats.now.entries) from
+        message.now }
 {
     if message.2.as_slice().len() > rules.max_size as usize {
         return false;
@@ -58,8 +60,16 @@ fn send_one<D: EngineDefinition>(
     from: Peer,
     message: (Peer, u64, List<u8>),
 ) -> Result<(), OutOfMemory>
-    ensures words { words.new ≡ (sent (lets_through rules.now.max_size rules.now.channels.items (runs seats.now.entries) from) (link_of links.now from) words.old from message).1 }
-    ensures ok { OnOk result (agenda.new ≡ record agenda.old { events = agenda.old.events ++ (sent (lets_through rules.now.max_size rules.now.channels.items (runs seats.now.entries) from) (link_of links.now from) words.old from message).0 }) }
+    ensures words { words.new
+        ≡ (sent (lets_through rules.now.max_size rules.now.channels.items (runs seats.now.entries) from)
+        (link_of links.now from) words.old from message).1 }
+    ensures ok { OnOk result (agenda.new
+        ≡ record agenda.old {
+          events = agenda.old.events
+              ++ (sent
+              (lets_through rules.now.max_size rules.now.channels.items (runs seats.now.entries) from)
+              (link_of links.now from) words.old from message).0;
+        }) }
 {
     if !is_carried(rules, seats, from, &message) {
         return Ok(());
@@ -90,8 +100,17 @@ pub fn send_all<D: EngineDefinition>(
     from: Peer,
     messages: Vec<(Peer, u64, List<u8>)>,
 ) -> Result<(), OutOfMemory>
-    ensures words { OnOk result (words.new ≡ (delivered (lets_through rules.now.max_size rules.now.channels.items (runs seats.now.entries) from) (link_of links.now from) words.old from messages.items).1) }
-    ensures agenda { OnOk result (agenda.new ≡ record agenda.old { events = agenda.old.events ++ (delivered (lets_through rules.now.max_size rules.now.channels.items (runs seats.now.entries) from) (link_of links.now from) words.old from messages.items).0 }) }
+    ensures words { OnOk result (words.new
+        ≡ (delivered
+        (lets_through rules.now.max_size rules.now.channels.items (runs seats.now.entries) from)
+        (link_of links.now from) words.old from messages.items).1) }
+    ensures agenda { OnOk result (agenda.new
+        ≡ record agenda.old {
+          events = agenda.old.events
+              ++ (delivered
+              (lets_through rules.now.max_size rules.now.channels.items (runs seats.now.entries) from)
+              (link_of links.now from) words.old from messages.items).0;
+        }) }
 {
     for message in messages {
         send_one(rules, links, words, seats, agenda, from, message)?;
@@ -106,7 +125,8 @@ pub fn set_timers(
     birth: u64,
     delays: &[u64],
 ) -> Result<(), OutOfMemory>
-    ensures { OnOk result (agenda.new ≡ record agenda.old { events = agenda.old.events ++ timers_of pk birth delays.now }) }
+    ensures { OnOk result
+        (agenda.new ≡ record agenda.old { events = agenda.old.events ++ timers_of pk birth delays.now }) }
 {
     for delay in delays {
         agenda.after(*delay, Event::Timer { pk, birth })?;

@@ -25,8 +25,13 @@ pub fn open<D: EngineDefinition>(
     agenda: &mut Agenda,
     polls: bool,
 ) -> Result<(), OutOfMemory>
-    ensures made { OnOk result (agenda.new ≡ record agenda.old { events = agenda.old.events ++ opening plan.now.participants plan.now.crashes polls }) }
-    ensures changes_alone { OnOk result (ChangesEnginesAlone (D.peer_of plan.now.engine) agenda.old agenda.new world.old world.new) }
+    ensures made { OnOk result (agenda.new
+        ≡ record agenda.old {
+          events = agenda.old.events
+              ++ opening plan.now.participants plan.now.crashes polls;
+        }) }
+    ensures changes_alone { OnOk result
+        (ChangesEnginesAlone (D.peer_of plan.now.engine) agenda.old agenda.new world.old world.new) }
     ensures exercise { OnOk result (world.new.exercise ≡ world.old.exercise) }
 {
     match start_prompt(plan, world, agenda) {
@@ -45,8 +50,13 @@ fn start_prompt<D: EngineDefinition>(
     world: &mut World<D>,
     agenda: &mut Agenda,
 ) -> Result<(), OutOfMemory>
-    ensures made { OnOk result (agenda.new ≡ record agenda.old { events = agenda.old.events ++ starts (others (named_late plan.now.crashes) plan.now.participants) }) }
-    ensures changes_alone { OnOk result (ChangesEnginesAlone (D.peer_of plan.now.engine) agenda.old agenda.new world.old world.new) }
+    ensures made { OnOk result (agenda.new
+        ≡ record agenda.old {
+          events = agenda.old.events
+              ++ starts (others (named_late plan.now.crashes) plan.now.participants);
+        }) }
+    ensures changes_alone { OnOk result
+        (ChangesEnginesAlone (D.peer_of plan.now.engine) agenda.old agenda.new world.old world.new) }
     ensures exercise { OnOk result (world.new.exercise ≡ world.old.exercise) }
 {
     for pk in plan.participants.as_slice() {
@@ -65,8 +75,13 @@ fn start_if_prompt<D: EngineDefinition>(
     agenda: &mut Agenda,
     pk: &Peer,
 ) -> Result<(), OutOfMemory>
-    ensures made { OnOk result (agenda.new ≡ record agenda.old { events = agenda.old.events ++ starts (others (named_late plan.now.crashes) (pk.now ∷ [])) }) }
-    ensures changes_alone { OnOk result (ChangesEnginesAlone (D.peer_of plan.now.engine) agenda.old agenda.new world.old world.new) }
+    ensures made { OnOk result (agenda.new
+        ≡ record agenda.old {
+          events = agenda.old.events
+              ++ starts (others (named_late plan.now.crashes) (pk.now ∷ []));
+        }) }
+    ensures changes_alone { OnOk result
+        (ChangesEnginesAlone (D.peer_of plan.now.engine) agenda.old agenda.new world.old world.new) }
     ensures exercise { OnOk result (world.new.exercise ≡ world.old.exercise) }
 {
     if is_among(named_late_by(plan.crashes.as_slice()), pk) {
@@ -80,7 +95,13 @@ fn start_if_prompt<D: EngineDefinition>(
 
 /// Sets the actions of the schedules, the random crash and the exit poll.
 fn set_failures(agenda: &mut Agenda, crashes: &[Crash], polls: bool) -> Result<(), OutOfMemory>
-    ensures { OnOk result (agenda.new ≡ record agenda.old { events = agenda.old.events ++ flat_map actions_of crashes.now ++ flat_map first_tick crashes.now ++ first_poll polls }) }
+    ensures { OnOk result (agenda.new
+        ≡ record agenda.old {
+          events = agenda.old.events
+              ++ flat_map actions_of crashes.now
+              ++ flat_map first_tick crashes.now
+              ++ first_poll polls;
+        }) }
 {
     set_actions(agenda, crashes)?;
     set_ticks(agenda, crashes)?;
@@ -92,7 +113,8 @@ fn set_failures(agenda: &mut Agenda, crashes: &[Crash], polls: bool) -> Result<(
 
 /// Sets the actions of each schedule, in the order of the configured failures.
 fn set_actions(agenda: &mut Agenda, crashes: &[Crash]) -> Result<(), OutOfMemory>
-    ensures { OnOk result (agenda.new ≡ record agenda.old { events = agenda.old.events ++ flat_map actions_of crashes.now }) }
+    ensures { OnOk result
+        (agenda.new ≡ record agenda.old { events = agenda.old.events ++ flat_map actions_of crashes.now }) }
 {
     for crash in crashes {
         set_schedule(agenda, crash)?;
@@ -112,7 +134,8 @@ fn set_schedule(agenda: &mut Agenda, crash: &Crash) -> Result<(), OutOfMemory>
 
 /// Sets these actions, at their times.
 fn set_each(agenda: &mut Agenda, actions: &[(u64, Action)]) -> Result<(), OutOfMemory>
-    ensures { OnOk result (agenda.new ≡ record agenda.old { events = agenda.old.events ++ map (λ e. (e.0, Act e.1)) actions.now }) }
+    ensures { OnOk result (agenda.new
+        ≡ record agenda.old { events = agenda.old.events ++ map (λ e. (e.0, Act e.1)) actions.now }) }
 {
     for action in actions {
         agenda.after(action.0, Event::Act(action.1))?;
@@ -122,7 +145,8 @@ fn set_each(agenda: &mut Agenda, actions: &[(u64, Action)]) -> Result<(), OutOfM
 
 /// Sets the first crash of each random failure.
 fn set_ticks(agenda: &mut Agenda, crashes: &[Crash]) -> Result<(), OutOfMemory>
-    ensures { OnOk result (agenda.new ≡ record agenda.old { events = agenda.old.events ++ flat_map first_tick crashes.now }) }
+    ensures { OnOk result
+        (agenda.new ≡ record agenda.old { events = agenda.old.events ++ flat_map first_tick crashes.now }) }
 {
     for crash in crashes {
         set_tick(agenda, crash)?;

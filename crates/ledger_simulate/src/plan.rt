@@ -50,10 +50,21 @@ impl<D: EngineDefinition> PlanBuilder<D> {
     /// 10 finalizations, no timeout, no storage fault and 1,000,000 events at most.
     pub fn new(alloc: Global, engine: D) -> Result<Self, OutOfMemory>
         ensures engine { IfOk result (λ b. b.engine ≡ engine) }
-        ensures participants { IfOk result (λ b. IfSome (D.taking_part engine) (λ told. b.setting.participants ≡ told)) }
-        ensures nothing { IfOk result (λ b. (b.setting.crashes ≡ []) × (b.exit_condition ≡ None) × (b.timeout ≡ None) × (b.storage_fault ≡ None) × (b.finalization_property ≡ []) × (b.property ≡ [])) }
+        ensures participants { IfOk result
+            (λ b. IfSome (D.taking_part engine) (λ told. b.setting.participants ≡ told)) }
+        ensures nothing { IfOk result (λ b.
+            (b.setting.crashes ≡ [])
+            × (b.exit_condition ≡ None)
+            × (b.timeout ≡ None)
+            × (b.storage_fault ≡ None)
+            × (b.finalization_property ≡ [])
+            × (b.property ≡ [])) }
         ensures numbers { IfOk result (λ b. (b.required_finalizations ≡ 10) × (b.max_events ≡ 1000000)) }
-        ensures link { IfOk result (λ b. (b.link.latency ≡ 10) × (b.link.jitter ≡ 5) × (b.link.success.num ≡ 1) × (b.link.success.den ≡ 1)) }
+        ensures link { IfOk result (λ b.
+            (b.link.latency ≡ 10)
+            × (b.link.jitter ≡ 5)
+            × (b.link.success.num ≡ 1)
+            × (b.link.success.den ≡ 1)) }
         ensures seeds { IfOk result (λ b. b.seeds ≡ 0 ∷ []) }
     {
         let participants = List::from_vec(engine.participants(alloc)?);
@@ -118,7 +129,10 @@ impl<D: EngineDefinition> PlanBuilder<D> {
     pub fn crash(mut self, crash: Crash) -> Result<Self, OutOfMemory>
         requires { IsTrue (fits_beside self.setting.crashes crash) }
         ensures crashes { IfOk result (λ b. b.setting.crashes ≡ self.setting.crashes ++ crash ∷ []) }
-        ensures others { IfOk result (λ b. (setting : _) × (b ≡ record self { setting = setting }) × (setting.participants ≡ self.setting.participants)) }
+        ensures others { IfOk result (λ b.
+            (setting : _)
+            × (b ≡ record self { setting = setting })
+            × (setting.participants ≡ self.setting.participants)) }
     {
         let setting = self.setting.crash(self.alloc, crash)?;
         self.setting = setting;
@@ -162,7 +176,8 @@ impl<D: EngineDefinition> PlanBuilder<D> {
         mut self,
         property: Box<dyn FinalizationProperty>,
     ) -> Result<Self, OutOfMemory>
-        ensures { IfOk result (λ b. b ≡ record self { finalization_property = self.finalization_property ++ property ∷ [] }) }
+        ensures { IfOk result
+            (λ b. b ≡ record self { finalization_property = self.finalization_property ++ property ∷ [] }) }
     {
         push(self.alloc, &mut self.finalization_property, property)?;
         Ok(self)
@@ -186,7 +201,21 @@ impl<D: EngineDefinition> PlanBuilder<D> {
 
     /// The plan, under the first of the seeds.
     pub fn build(self) -> Plan<D>
-        ensures plan { result ≡ record { seed = first_or self.seeds 0; participants = self.setting.participants; link = self.link; engine = self.engine; crashes = self.setting.crashes; required_finalizations = self.required_finalizations; exit_condition = self.exit_condition; timeout = self.timeout; storage_fault = self.storage_fault; finalization_property = self.finalization_property; property = self.property; max_events = self.max_events } }
+        ensures plan { result
+            ≡ record {
+              seed = first_or self.seeds 0;
+              participants = self.setting.participants;
+              link = self.link;
+              engine = self.engine;
+              crashes = self.setting.crashes;
+              required_finalizations = self.required_finalizations;
+              exit_condition = self.exit_condition;
+              timeout = self.timeout;
+              storage_fault = self.storage_fault;
+              finalization_property = self.finalization_property;
+              property = self.property;
+              max_events = self.max_events;
+            } }
         ensures runs { Runs result.participants result.crashes }
     {
         let (_seeds, plan) = self.parts();
@@ -196,7 +225,21 @@ impl<D: EngineDefinition> PlanBuilder<D> {
     /// The seeds, and the plan under the first of them.
     pub fn parts(self) -> (List<u64>, Plan<D>)
         ensures seeds { result.0 ≡ self.seeds }
-        ensures plan { result.1 ≡ record { seed = first_or self.seeds 0; participants = self.setting.participants; link = self.link; engine = self.engine; crashes = self.setting.crashes; required_finalizations = self.required_finalizations; exit_condition = self.exit_condition; timeout = self.timeout; storage_fault = self.storage_fault; finalization_property = self.finalization_property; property = self.property; max_events = self.max_events } }
+        ensures plan { result.1
+            ≡ record {
+              seed = first_or self.seeds 0;
+              participants = self.setting.participants;
+              link = self.link;
+              engine = self.engine;
+              crashes = self.setting.crashes;
+              required_finalizations = self.required_finalizations;
+              exit_condition = self.exit_condition;
+              timeout = self.timeout;
+              storage_fault = self.storage_fault;
+              finalization_property = self.finalization_property;
+              property = self.property;
+              max_events = self.max_events;
+            } }
         ensures runs { Runs result.1.participants result.1.crashes }
     {
         let PlanBuilder {

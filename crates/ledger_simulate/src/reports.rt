@@ -62,12 +62,21 @@ pub fn ask<D: EngineDefinition>(
     watch: &Watch,
     states: Vec<StateView>,
 ) -> Result<Option<Reached>, Stop>
-    ensures reached { IfOk result (λ o. IfSome o (λ r. IsReached (λ c. exit_verdict c) plan.now.exit_condition plan.now.required_finalizations (target_count plan.now.participants plan.now.crashes world.now.exercise.delayed_started) watch.now r)) }
-    ensures answers { IfOk result (λ o. ExitIs (λ c. exit_verdict c) plan.now.exit_condition plan.now.required_finalizations (target_count plan.now.participants plan.now.crashes world.now.exercise.delayed_started) (tracker_of watch.now) states.items (is_some o)) }
+    ensures reached { IfOk result (λ o.
+        IfSome o (λ r.
+        IsReached (λ c. exit_verdict c) plan.now.exit_condition plan.now.required_finalizations
+        (target_count plan.now.participants plan.now.crashes world.now.exercise.delayed_started)
+        watch.now r)) }
+    ensures answers { IfOk result (λ o.
+        ExitIs (λ c. exit_verdict c) plan.now.exit_condition plan.now.required_finalizations
+        (target_count plan.now.participants plan.now.crashes world.now.exercise.delayed_started)
+        (tracker_of watch.now) states.items (is_some o)) }
     ensures count { IfOk result (λ o. IfSome o (λ r. r.count ≡ length watch.now)) }
     ensures states { IfOk result (λ o. IfSome o (λ r. r.states ≡ states)) }
     ensures asked { IfErr result (λ s. IsTrue (stops_asked s)) }
-    ensures fails { IfErr result (IsFailure (λ c. exit_name c) (λ c. exit_verdict c) plan.now.exit_condition (tracker_of watch.now) states.items (target_count plan.now.participants plan.now.crashes world.now.exercise.delayed_started)) }
+    ensures fails { IfErr result (IsFailure (λ c. exit_name c) (λ c. exit_verdict c) plan.now.exit_condition
+        (tracker_of watch.now) states.items
+        (target_count plan.now.participants plan.now.crashes world.now.exercise.delayed_started)) }
     ensures late { IfErr result (λ s. IsTrue (stops_late s)) }
 {
     match ask_exit(
@@ -100,16 +109,52 @@ fn take_report<D: EngineDefinition>(
     agenda: &mut Agenda,
     update: FinalizationUpdate,
 ) -> Result<Option<Reached>, Stop>
-    ensures changes_alone { OnOk result (ChangesEnginesAlone (D.peer_of plan.now.engine) agenda.old agenda.new world.old world.new) }
-    ensures sets_off { IfOk result (λ o. SetsOff (D.peer_of plan.now.engine) D.State.height_of plan.now.participants plan.now.crashes (Finds (λ p. finalization_complaint p) plan.now.finalization_property D.State.height_of D.State.bytes_of (λ c. exit_verdict c) plan.now.exit_condition plan.now.required_finalizations plan.now.participants plan.now.crashes watch.old (update ∷ []) (is_some o)) agenda.old agenda.new world.old world.new) }
+    ensures changes_alone { OnOk result
+        (ChangesEnginesAlone (D.peer_of plan.now.engine) agenda.old agenda.new world.old world.new) }
+    ensures sets_off { IfOk result (λ o.
+        SetsOff (D.peer_of plan.now.engine) D.State.height_of plan.now.participants plan.now.crashes
+        (Finds (λ p. finalization_complaint p) plan.now.finalization_property D.State.height_of
+        D.State.bytes_of (λ c. exit_verdict c) plan.now.exit_condition
+        plan.now.required_finalizations plan.now.participants plan.now.crashes watch.old
+        (update ∷ []) (is_some o))
+        agenda.old agenda.new world.old world.new) }
     ensures updates { OnOk result (watch.new ≡ watch.old ++ update ∷ []) }
-    ensures reached { IfOk result (λ o. IfSome o (λ r. IsReached (λ c. exit_verdict c) plan.now.exit_condition plan.now.required_finalizations (target_count plan.now.participants plan.now.crashes world.new.exercise.delayed_started) watch.new r)) }
-    ensures started { IfOk result (λ o. o ≡ None → world.new.exercise.delayed_started ≡ (world.old.exercise.delayed_started || starts plan.now.participants plan.now.crashes (tracker_of watch.new))) }
-    ensures met { IfOk result (λ o. IfSome o (λ r. (world.new.exercise.delayed_started ≡ world.old.exercise.delayed_started) × (r.count ≡ length watch.new))) }
-    ensures sound { IfOk result (λ o. IfSome o (λ r. Sound (λ p. finalization_complaint p) plan.now.finalization_property D.State.height_of D.State.bytes_of world.new.seats.entries)) }
-    ensures states { IfOk result (λ o. IfSome o (λ r. r.states.items ≡ views_checked D.State.height_of D.State.bytes_of plan.now.crashes world.old)) }
-    ensures comes { IfErr result (StopComes (λ more u. (more ≡ []) × (u ≡ update)) (λ h. first_passed D.State.height_of 0 plan.now.crashes (standing_of world.old) ≡ Some h) watch.old) }
-    ensures answered { IfErr result (StopAnswered (λ p. finalization_name p) (λ p. finalization_complaint p) (λ p. property_name p) (λ p. property_complaint p) (λ c. exit_name c) (λ c. exit_verdict c) plan.now.finalization_property plan.now.property plan.now.exit_condition (λ more states. (more ≡ update ∷ []) × (states ≡ views_checked D.State.height_of D.State.bytes_of plan.now.crashes world.old)) (λ more states target. (more ≡ update ∷ []) × (states ≡ views_checked D.State.height_of D.State.bytes_of plan.now.crashes world.old) × (target ≡ target_count plan.now.participants plan.now.crashes world.old.exercise.delayed_started)) (λ more states. ⊥) watch.old) }
+    ensures reached { IfOk result (λ o.
+        IfSome o (λ r.
+        IsReached (λ c. exit_verdict c) plan.now.exit_condition plan.now.required_finalizations
+        (target_count plan.now.participants plan.now.crashes world.new.exercise.delayed_started)
+        watch.new r)) }
+    ensures started { IfOk result (λ o.
+        o ≡ None →
+        world.new.exercise.delayed_started
+        ≡ (world.old.exercise.delayed_started
+        || starts plan.now.participants plan.now.crashes (tracker_of watch.new))) }
+    ensures met { IfOk result (λ o.
+        IfSome o (λ r.
+        (world.new.exercise.delayed_started ≡ world.old.exercise.delayed_started)
+        × (r.count ≡ length watch.new))) }
+    ensures sound { IfOk result (λ o.
+        IfSome o (λ r.
+        Sound (λ p. finalization_complaint p) plan.now.finalization_property D.State.height_of
+        D.State.bytes_of world.new.seats.entries)) }
+    ensures states { IfOk result (λ o.
+        IfSome o (λ r.
+        r.states.items ≡ views_checked D.State.height_of D.State.bytes_of plan.now.crashes world.old)) }
+    ensures comes { IfErr result (StopComes (λ more u. (more ≡ []) × (u ≡ update))
+        (λ h. first_passed D.State.height_of 0 plan.now.crashes (standing_of world.old) ≡ Some h)
+        watch.old) }
+    ensures answered { IfErr result (StopAnswered (λ p. finalization_name p) (λ p. finalization_complaint p)
+        (λ p. property_name p) (λ p. property_complaint p) (λ c. exit_name c) (λ c. exit_verdict c)
+        plan.now.finalization_property plan.now.property plan.now.exit_condition
+        (λ more states.
+        (more ≡ update ∷ [])
+        × (states ≡ views_checked D.State.height_of D.State.bytes_of plan.now.crashes world.old))
+        (λ more states target.
+        (more ≡ update ∷ [])
+        × (states ≡ views_checked D.State.height_of D.State.bytes_of plan.now.crashes world.old)
+        × (target
+        ≡ target_count plan.now.participants plan.now.crashes world.old.exercise.delayed_started))
+        (λ more states. ⊥) watch.old) }
     ensures late { IfErr result (λ s. IsTrue (stops_late s)) }
 {
     match watch.observe(update) {
@@ -132,10 +177,14 @@ fn take_report<D: EngineDefinition>(
 
 /// Checks the states of now.
 fn check_now<D: EngineDefinition>(plan: &Plan<D>, world: &World<D>) -> Result<Vec<StateView>, Stop>
-    ensures views { IfOk result (λ states. states.items ≡ active_views D.State.height_of D.State.bytes_of world.now.seats.entries) }
+    ensures views { IfOk result
+        (λ states. states.items ≡ active_views D.State.height_of D.State.bytes_of world.now.seats.entries) }
     ensures asked { IfErr result (λ s. IsTrue (stops_asked s)) }
-    ensures sound { OnOk result (Sound (λ p. finalization_complaint p) plan.now.finalization_property D.State.height_of D.State.bytes_of world.now.seats.entries) }
-    ensures complains { IfErr result (IsComplaint (λ p. finalization_name p) (λ p. finalization_complaint p) plan.now.finalization_property (active_views D.State.height_of D.State.bytes_of world.now.seats.entries)) }
+    ensures sound { OnOk result (Sound (λ p. finalization_complaint p) plan.now.finalization_property
+        D.State.height_of D.State.bytes_of world.now.seats.entries) }
+    ensures complains { IfErr result (IsComplaint (λ p. finalization_name p) (λ p. finalization_complaint p)
+        plan.now.finalization_property
+        (active_views D.State.height_of D.State.bytes_of world.now.seats.entries)) }
     ensures late { IfErr result (λ s. IsTrue (stops_late s)) }
 {
     let states = match active_states(world.alloc, &world.seats) {
@@ -158,13 +207,35 @@ fn check_and_ask<D: EngineDefinition>(
     world: &World<D>,
     watch: &Watch,
 ) -> Result<Option<Reached>, Stop>
-    ensures reached { IfOk result (λ o. IfSome o (λ r. IsReached (λ c. exit_verdict c) plan.now.exit_condition plan.now.required_finalizations (target_count plan.now.participants plan.now.crashes world.now.exercise.delayed_started) watch.now r)) }
-    ensures answers { IfOk result (λ o. ExitIs (λ c. exit_verdict c) plan.now.exit_condition plan.now.required_finalizations (target_count plan.now.participants plan.now.crashes world.now.exercise.delayed_started) (tracker_of watch.now) (active_views D.State.height_of D.State.bytes_of world.now.seats.entries) (is_some o)) }
+    ensures reached { IfOk result (λ o.
+        IfSome o (λ r.
+        IsReached (λ c. exit_verdict c) plan.now.exit_condition plan.now.required_finalizations
+        (target_count plan.now.participants plan.now.crashes world.now.exercise.delayed_started)
+        watch.now r)) }
+    ensures answers { IfOk result (λ o.
+        ExitIs (λ c. exit_verdict c) plan.now.exit_condition plan.now.required_finalizations
+        (target_count plan.now.participants plan.now.crashes world.now.exercise.delayed_started)
+        (tracker_of watch.now) (active_views D.State.height_of D.State.bytes_of world.now.seats.entries)
+        (is_some o)) }
     ensures count { IfOk result (λ o. IfSome o (λ r. r.count ≡ length watch.now)) }
-    ensures sound { OnOk result (Sound (λ p. finalization_complaint p) plan.now.finalization_property D.State.height_of D.State.bytes_of world.now.seats.entries) }
-    ensures states { IfOk result (λ o. IfSome o (λ r. r.states.items ≡ active_views D.State.height_of D.State.bytes_of world.now.seats.entries)) }
+    ensures sound { OnOk result (Sound (λ p. finalization_complaint p) plan.now.finalization_property
+        D.State.height_of D.State.bytes_of world.now.seats.entries) }
+    ensures states { IfOk result (λ o.
+        IfSome o (λ r.
+        r.states.items ≡ active_views D.State.height_of D.State.bytes_of world.now.seats.entries)) }
     ensures asked { IfErr result (λ s. IsTrue (stops_asked s)) }
-    ensures answered { IfErr result (StopAnswered (λ p. finalization_name p) (λ p. finalization_complaint p) (λ p. property_name p) (λ p. property_complaint p) (λ c. exit_name c) (λ c. exit_verdict c) plan.now.finalization_property plan.now.property plan.now.exit_condition (λ more states. (more ≡ []) × (states ≡ active_views D.State.height_of D.State.bytes_of world.now.seats.entries)) (λ more states target. (more ≡ []) × (states ≡ active_views D.State.height_of D.State.bytes_of world.now.seats.entries) × (target ≡ target_count plan.now.participants plan.now.crashes world.now.exercise.delayed_started)) (λ more states. ⊥) watch.now) }
+    ensures answered { IfErr result (StopAnswered (λ p. finalization_name p) (λ p. finalization_complaint p)
+        (λ p. property_name p) (λ p. property_complaint p) (λ c. exit_name c) (λ c. exit_verdict c)
+        plan.now.finalization_property plan.now.property plan.now.exit_condition
+        (λ more states.
+        (more ≡ [])
+        × (states ≡ active_views D.State.height_of D.State.bytes_of world.now.seats.entries))
+        (λ more states target.
+        (more ≡ [])
+        × (states ≡ active_views D.State.height_of D.State.bytes_of world.now.seats.entries)
+        × (target
+        ≡ target_count plan.now.participants plan.now.crashes world.now.exercise.delayed_started))
+        (λ more states. ⊥) watch.now) }
     ensures late { IfErr result (λ s. IsTrue (stops_late s)) }
 {
     match check_now(plan, world) {
@@ -182,7 +253,13 @@ fn drain_report<D: EngineDefinition>(
 ) -> Result<(), Stop>
     ensures updates { OnOk result (watch.new ≡ watch.old ++ update ∷ []) }
     ensures comes { IfErr result (StopComes (λ more u. (more ≡ []) × (u ≡ update)) (λ h. ⊥) watch.old) }
-    ensures answered { IfErr result (StopAnswered (λ p. finalization_name p) (λ p. finalization_complaint p) (λ p. property_name p) (λ p. property_complaint p) (λ c. exit_name c) (λ c. exit_verdict c) plan.now.finalization_property plan.now.property plan.now.exit_condition (λ more states. (more ≡ update ∷ []) × (states ≡ active_views D.State.height_of D.State.bytes_of world.now.seats.entries)) (λ more states target. ⊥) (λ more states. ⊥) watch.old) }
+    ensures answered { IfErr result (StopAnswered (λ p. finalization_name p) (λ p. finalization_complaint p)
+        (λ p. property_name p) (λ p. property_complaint p) (λ c. exit_name c) (λ c. exit_verdict c)
+        plan.now.finalization_property plan.now.property plan.now.exit_condition
+        (λ more states.
+        (more ≡ update ∷ [])
+        × (states ≡ active_views D.State.height_of D.State.bytes_of world.now.seats.entries))
+        (λ more states target. ⊥) (λ more states. ⊥) watch.old) }
     ensures late { IfErr result (λ s. IsTrue (stops_late s)) }
 {
     match watch.observe(update) {
@@ -205,18 +282,69 @@ fn next_report<D: EngineDefinition>(
     reached: Option<Reached>,
     update: FinalizationUpdate,
 ) -> Result<Option<Reached>, Stop>
-    requires reached { IfSome reached (λ r. IsReached (λ c. exit_verdict c) plan.now.exit_condition plan.now.required_finalizations (target_count plan.now.participants plan.now.crashes world.old.exercise.delayed_started) watch.old r) }
-    requires sound { IfSome reached (λ r. Sound (λ p. finalization_complaint p) plan.now.finalization_property D.State.height_of D.State.bytes_of world.old.seats.entries) }
-    ensures changes_alone { OnOk result (ChangesEnginesAlone (D.peer_of plan.now.engine) agenda.old agenda.new world.old world.new) }
-    ensures sets_off { IfOk result (λ o. MatchOption reached (SetsOff (D.peer_of plan.now.engine) D.State.height_of plan.now.participants plan.now.crashes (Finds (λ p. finalization_complaint p) plan.now.finalization_property D.State.height_of D.State.bytes_of (λ c. exit_verdict c) plan.now.exit_condition plan.now.required_finalizations plan.now.participants plan.now.crashes watch.old (update ∷ []) (is_some o)) agenda.old agenda.new world.old world.new) (λ q. (agenda.new ≡ agenda.old) × (world.new ≡ world.old))) }
+    requires reached { IfSome reached (λ r.
+        IsReached (λ c. exit_verdict c) plan.now.exit_condition plan.now.required_finalizations
+        (target_count plan.now.participants plan.now.crashes world.old.exercise.delayed_started)
+        watch.old r) }
+    requires sound { IfSome reached (λ r.
+        Sound (λ p. finalization_complaint p) plan.now.finalization_property D.State.height_of
+        D.State.bytes_of world.old.seats.entries) }
+    ensures changes_alone { OnOk result
+        (ChangesEnginesAlone (D.peer_of plan.now.engine) agenda.old agenda.new world.old world.new) }
+    ensures sets_off { IfOk result (λ o.
+        MatchOption reached
+        (SetsOff (D.peer_of plan.now.engine) D.State.height_of plan.now.participants plan.now.crashes
+        (Finds (λ p. finalization_complaint p) plan.now.finalization_property D.State.height_of
+        D.State.bytes_of (λ c. exit_verdict c) plan.now.exit_condition
+        plan.now.required_finalizations plan.now.participants plan.now.crashes watch.old
+        (update ∷ []) (is_some o))
+        agenda.old agenda.new world.old world.new)
+        (λ q. (agenda.new ≡ agenda.old) × (world.new ≡ world.old))) }
     ensures updates { OnOk result (watch.new ≡ watch.old ++ update ∷ []) }
-    ensures reached { IfOk result (λ o. IfSome o (λ r. IsReached (λ c. exit_verdict c) plan.now.exit_condition plan.now.required_finalizations (target_count plan.now.participants plan.now.crashes world.new.exercise.delayed_started) watch.new r)) }
-    ensures started { IfOk result (λ o. o ≡ None → (reached ≡ None) × (world.new.exercise.delayed_started ≡ (world.old.exercise.delayed_started || starts plan.now.participants plan.now.crashes (tracker_of watch.new)))) }
-    ensures met { IfOk result (λ o. IfSome o (λ r. (world.new.exercise.delayed_started ≡ world.old.exercise.delayed_started) × MatchOption reached (r.count ≡ length watch.new) (λ q. r.count ≡ q.count))) }
-    ensures sound { IfOk result (λ o. IfSome o (λ r. Sound (λ p. finalization_complaint p) plan.now.finalization_property D.State.height_of D.State.bytes_of world.new.seats.entries)) }
-    ensures states { IfOk result (λ o. IfSome o (λ r. MatchOption reached (r.states.items ≡ views_checked D.State.height_of D.State.bytes_of plan.now.crashes world.old) (λ q. r.states.items ≡ q.states.items))) }
-    ensures comes { IfErr result (StopComes (λ more u. (more ≡ []) × (u ≡ update)) (λ h. (reached ≡ None) × (first_passed D.State.height_of 0 plan.now.crashes (standing_of world.old) ≡ Some h)) watch.old) }
-    ensures answered { IfErr result (StopAnswered (λ p. finalization_name p) (λ p. finalization_complaint p) (λ p. property_name p) (λ p. property_complaint p) (λ c. exit_name c) (λ c. exit_verdict c) plan.now.finalization_property plan.now.property plan.now.exit_condition (λ more states. (reached ≡ None) × (more ≡ update ∷ []) × (states ≡ views_checked D.State.height_of D.State.bytes_of plan.now.crashes world.old)) (λ more states target. (reached ≡ None) × (more ≡ update ∷ []) × (states ≡ views_checked D.State.height_of D.State.bytes_of plan.now.crashes world.old) × (target ≡ target_count plan.now.participants plan.now.crashes world.old.exercise.delayed_started)) (λ more states. ⊥) watch.old) }
+    ensures reached { IfOk result (λ o.
+        IfSome o (λ r.
+        IsReached (λ c. exit_verdict c) plan.now.exit_condition plan.now.required_finalizations
+        (target_count plan.now.participants plan.now.crashes world.new.exercise.delayed_started)
+        watch.new r)) }
+    ensures started { IfOk result (λ o.
+        o ≡ None →
+        (reached ≡ None)
+        × (world.new.exercise.delayed_started
+        ≡ (world.old.exercise.delayed_started
+        || starts plan.now.participants plan.now.crashes (tracker_of watch.new)))) }
+    ensures met { IfOk result (λ o.
+        IfSome o (λ r.
+        (world.new.exercise.delayed_started ≡ world.old.exercise.delayed_started)
+        × MatchOption reached (r.count ≡ length watch.new) (λ q. r.count ≡ q.count))) }
+    ensures sound { IfOk result (λ o.
+        IfSome o (λ r.
+        Sound (λ p. finalization_complaint p) plan.now.finalization_property D.State.height_of
+        D.State.bytes_of world.new.seats.entries)) }
+    ensures states { IfOk result (λ o.
+        IfSome o (λ r.
+        MatchOption reached
+        (r.states.items
+        ≡ views_checked D.State.height_of D.State.bytes_of plan.now.crashes world.old)
+        (λ q. r.states.items ≡ q.states.items))) }
+    ensures comes { IfErr result (StopComes (λ more u. (more ≡ []) × (u ≡ update))
+        (λ h.
+        (reached ≡ None)
+        × (first_passed D.State.height_of 0 plan.now.crashes (standing_of world.old) ≡ Some h))
+        watch.old) }
+    ensures answered { IfErr result (StopAnswered (λ p. finalization_name p) (λ p. finalization_complaint p)
+        (λ p. property_name p) (λ p. property_complaint p) (λ c. exit_name c) (λ c. exit_verdict c)
+        plan.now.finalization_property plan.now.property plan.now.exit_condition
+        (λ more states.
+        (reached ≡ None)
+        × (more ≡ update ∷ [])
+        × (states ≡ views_checked D.State.height_of D.State.bytes_of plan.now.crashes world.old))
+        (λ more states target.
+        (reached ≡ None)
+        × (more ≡ update ∷ [])
+        × (states ≡ views_checked D.State.height_of D.State.bytes_of plan.now.crashes world.old)
+        × (target
+        ≡ target_count plan.now.participants plan.now.crashes world.old.exercise.delayed_started))
+        (λ more states. ⊥) watch.old) }
     ensures late { IfErr result (λ s. IsTrue (stops_late s)) }
 {
     match reached {
@@ -237,14 +365,61 @@ pub fn take_reports<D: EngineDefinition>(
     agenda: &mut Agenda,
     updates: Vec<FinalizationUpdate>,
 ) -> Result<Option<Reached>, Stop>
-    ensures changes_alone { OnOk result (ChangesEnginesAlone (D.peer_of plan.now.engine) agenda.old agenda.new world.old world.new) }
-    ensures set_off { IfOk result (λ o. SetsOffEach (D.peer_of plan.now.engine) D.State.height_of plan.now.participants plan.now.crashes (Finds (λ p. finalization_complaint p) plan.now.finalization_property D.State.height_of D.State.bytes_of (λ c. exit_verdict c) plan.now.exit_condition plan.now.required_finalizations plan.now.participants plan.now.crashes watch.old) updates.items (is_some o) (count_setting_off watch.old updates.items o) agenda.old agenda.new world.old world.new) }
+    ensures changes_alone { OnOk result
+        (ChangesEnginesAlone (D.peer_of plan.now.engine) agenda.old agenda.new world.old world.new) }
+    ensures set_off { IfOk result (λ o.
+        SetsOffEach (D.peer_of plan.now.engine) D.State.height_of plan.now.participants plan.now.crashes
+        (Finds (λ p. finalization_complaint p) plan.now.finalization_property D.State.height_of
+        D.State.bytes_of (λ c. exit_verdict c) plan.now.exit_condition
+        plan.now.required_finalizations plan.now.participants plan.now.crashes watch.old)
+        updates.items (is_some o) (count_setting_off watch.old updates.items o) agenda.old agenda.new
+        world.old world.new) }
     ensures updates { OnOk result (watch.new ≡ watch.old ++ updates.items) }
-    ensures reached { IfOk result (λ o. IfSome o (λ r. IsReached (λ c. exit_verdict c) plan.now.exit_condition plan.now.required_finalizations (target_count plan.now.participants plan.now.crashes world.new.exercise.delayed_started) watch.new r)) }
-    ensures started { IfOk result (λ o. world.new.exercise.delayed_started ≡ started_by plan.now.participants plan.now.crashes watch.old world.old.exercise.delayed_started updates.items o) }
-    ensures seen { IfOk result (λ o. IfSome o (MetOn (Sees (D.peer_of plan.now.engine) D.State.height_of D.State.bytes_of plan.now.participants plan.now.crashes (Finds (λ p. finalization_complaint p) plan.now.finalization_property D.State.height_of D.State.bytes_of (λ c. exit_verdict c) plan.now.exit_condition plan.now.required_finalizations plan.now.participants plan.now.crashes watch.old) agenda.old world.old updates.items) watch.old)) }
-    ensures comes { IfErr result (StopComes (λ more u. (rest : _) × (updates.items ≡ more ++ u ∷ rest)) (SkipsAmong (D.peer_of plan.now.engine) D.State.height_of plan.now.participants plan.now.crashes (Finds (λ p. finalization_complaint p) plan.now.finalization_property D.State.height_of D.State.bytes_of (λ c. exit_verdict c) plan.now.exit_condition plan.now.required_finalizations plan.now.participants plan.now.crashes watch.old) updates.items agenda.old world.old) watch.old) }
-    ensures answered { IfErr result (StopAnswered (λ p. finalization_name p) (λ p. finalization_complaint p) (λ p. property_name p) (λ p. property_complaint p) (λ c. exit_name c) (λ c. exit_verdict c) plan.now.finalization_property plan.now.property plan.now.exit_condition (Sees (D.peer_of plan.now.engine) D.State.height_of D.State.bytes_of plan.now.participants plan.now.crashes (Finds (λ p. finalization_complaint p) plan.now.finalization_property D.State.height_of D.State.bytes_of (λ c. exit_verdict c) plan.now.exit_condition plan.now.required_finalizations plan.now.participants plan.now.crashes watch.old) agenda.old world.old updates.items) (λ more states target. Sees (D.peer_of plan.now.engine) D.State.height_of D.State.bytes_of plan.now.participants plan.now.crashes (Finds (λ p. finalization_complaint p) plan.now.finalization_property D.State.height_of D.State.bytes_of (λ c. exit_verdict c) plan.now.exit_condition plan.now.required_finalizations plan.now.participants plan.now.crashes watch.old) agenda.old world.old updates.items more states × (target ≡ target_at plan.now.participants plan.now.crashes watch.old world.old.exercise.delayed_started more)) (λ more states. ⊥) watch.old) }
+    ensures reached { IfOk result (λ o.
+        IfSome o (λ r.
+        IsReached (λ c. exit_verdict c) plan.now.exit_condition plan.now.required_finalizations
+        (target_count plan.now.participants plan.now.crashes world.new.exercise.delayed_started)
+        watch.new r)) }
+    ensures started { IfOk result (λ o.
+        world.new.exercise.delayed_started
+        ≡ started_by plan.now.participants plan.now.crashes watch.old world.old.exercise.delayed_started
+        updates.items o) }
+    ensures seen { IfOk result (λ o.
+        IfSome o (MetOn
+        (Sees (D.peer_of plan.now.engine) D.State.height_of D.State.bytes_of plan.now.participants
+        plan.now.crashes
+        (Finds (λ p. finalization_complaint p) plan.now.finalization_property D.State.height_of
+        D.State.bytes_of (λ c. exit_verdict c) plan.now.exit_condition
+        plan.now.required_finalizations plan.now.participants plan.now.crashes watch.old)
+        agenda.old world.old updates.items)
+        watch.old)) }
+    ensures comes { IfErr result (StopComes (λ more u. (rest : _) × (updates.items ≡ more ++ u ∷ rest))
+        (SkipsAmong (D.peer_of plan.now.engine) D.State.height_of plan.now.participants plan.now.crashes
+        (Finds (λ p. finalization_complaint p) plan.now.finalization_property D.State.height_of
+        D.State.bytes_of (λ c. exit_verdict c) plan.now.exit_condition
+        plan.now.required_finalizations plan.now.participants plan.now.crashes watch.old)
+        updates.items agenda.old world.old)
+        watch.old) }
+    ensures answered { IfErr result (StopAnswered (λ p. finalization_name p) (λ p. finalization_complaint p)
+        (λ p. property_name p) (λ p. property_complaint p) (λ c. exit_name c) (λ c. exit_verdict c)
+        plan.now.finalization_property plan.now.property plan.now.exit_condition
+        (Sees (D.peer_of plan.now.engine) D.State.height_of D.State.bytes_of plan.now.participants
+        plan.now.crashes
+        (Finds (λ p. finalization_complaint p) plan.now.finalization_property D.State.height_of
+        D.State.bytes_of (λ c. exit_verdict c) plan.now.exit_condition
+        plan.now.required_finalizations plan.now.participants plan.now.crashes watch.old)
+        agenda.old world.old updates.items)
+        (λ more states target.
+        Sees (D.peer_of plan.now.engine) D.State.height_of D.State.bytes_of plan.now.participants
+        plan.now.crashes
+        (Finds (λ p. finalization_complaint p) plan.now.finalization_property D.State.height_of
+        D.State.bytes_of (λ c. exit_verdict c) plan.now.exit_condition
+        plan.now.required_finalizations plan.now.participants plan.now.crashes watch.old)
+        agenda.old world.old updates.items more states
+        × (target
+        ≡ target_at plan.now.participants plan.now.crashes watch.old
+        world.old.exercise.delayed_started more))
+        (λ more states. ⊥) watch.old) }
     ensures late { IfErr result (λ s. IsTrue (stops_late s)) }
 {
     let mut reached = None;

@@ -54,7 +54,9 @@ impl<D: EngineDefinition> World<D> {
         ensures words { IfOk result (λ w. w.words ≡ words) }
         ensures started { IfOk result (λ w. w.exercise.delayed_started ≡ false) }
         ensures tally { IfOk result (λ w. tally_of w.exercise ≡ no_tally (length plan.now.crashes)) }
-        ensures rules { IfOk result (λ w. IfSome (D.carried_size plan.now.engine) (λ told. w.rules.max_size ≡ told) × IfSome (D.carried_on plan.now.engine) (λ told. w.rules.channels.items ≡ told)) }
+        ensures rules { IfOk result (λ w.
+            IfSome (D.carried_size plan.now.engine) (λ told. w.rules.max_size ≡ told)
+            × IfSome (D.carried_on plan.now.engine) (λ told. w.rules.channels.items ≡ told)) }
         ensures links { IfOk result (λ w. (common_link w.links ≡ plan.now.link) × (changed_links w.links ≡ [])) }
     {
         Ok(World {
@@ -82,8 +84,10 @@ impl<D: EngineDefinition> World<D> {
         agenda: &mut Agenda,
         pk: Peer,
     ) -> Result<(), OutOfMemory>
-        ensures made { OnOk result (agenda.new ≡ record agenda.old { events = agenda.old.events ++ (0, Started pk) ∷ [] }) }
-        ensures changes_alone { OnOk result (ChangesEnginesAlone (D.peer_of plan.now.engine) agenda.old agenda.new self.old self.new) }
+        ensures made { OnOk result
+            (agenda.new ≡ record agenda.old { events = agenda.old.events ++ (0, Started pk) ∷ [] }) }
+        ensures changes_alone { OnOk result
+            (ChangesEnginesAlone (D.peer_of plan.now.engine) agenda.old agenda.new self.old self.new) }
         ensures exercise { OnOk result (self.new.exercise ≡ self.old.exercise) }
     {
         let participants = plan.participants.as_slice();
@@ -117,7 +121,8 @@ impl<D: EngineDefinition> World<D> {
         agenda: &mut Agenda,
         pk: Peer,
     ) -> Result<(), OutOfMemory>
-        ensures changes_alone { OnOk result (ChangesEnginesAlone (D.peer_of plan.now.engine) agenda.old agenda.new self.old self.new) }
+        ensures changes_alone { OnOk result
+            (ChangesEnginesAlone (D.peer_of plan.now.engine) agenda.old agenda.new self.old self.new) }
         ensures exercise { OnOk result (self.new.exercise ≡ self.old.exercise) }
     {
         if !is_among(plan.participants.as_slice(), &pk) {
@@ -146,7 +151,8 @@ impl<D: EngineDefinition> World<D> {
 
     /// Stops a peer for a downtime.
     fn crash_for(&mut self, agenda: &mut Agenda, pk: Peer, downtime: u64) -> Result<(), OutOfMemory>
-        ensures changes_alone { OnOk result ((peer_of : _) → ChangesEnginesAlone peer_of agenda.old agenda.new self.old self.new) }
+        ensures changes_alone { OnOk result
+            ((peer_of : _) → ChangesEnginesAlone peer_of agenda.old agenda.new self.old self.new) }
         ensures standing { OnOk result (standing_of self.new ≡ crashed (standing_of self.old) pk) }
         ensures started { OnOk result (self.new.exercise.delayed_started ≡ self.old.exercise.delayed_started) }
     {
@@ -166,7 +172,8 @@ impl<D: EngineDefinition> World<D> {
         agenda: &mut Agenda,
         action: Action,
     ) -> Result<(), OutOfMemory>
-        ensures changes { OnOk result (ChangesEngines (D.peer_of plan.now.engine) agenda.old agenda.new self.old self.new) }
+        ensures changes { OnOk result
+            (ChangesEngines (D.peer_of plan.now.engine) agenda.old agenda.new self.old self.new) }
         ensures tally { OnOk result (tally_of self.new.exercise ≡ acted action (standing_of self.old)) }
         ensures started { OnOk result (self.new.exercise.delayed_started ≡ self.old.exercise.delayed_started) }
     {
@@ -223,8 +230,10 @@ impl<D: EngineDefinition> World<D> {
         plan: &Plan<D>,
         agenda: &mut Agenda,
     ) -> Result<(), OutOfMemory>
-        ensures changes { OnOk result (ChangesEngines (D.peer_of plan.now.engine) agenda.old agenda.new self.old self.new) }
-        ensures tally { OnOk result (tally_of self.new.exercise ≡ (struck_at_random plan.now.crashes self.old.words (standing_of self.old)).tally) }
+        ensures changes { OnOk result
+            (ChangesEngines (D.peer_of plan.now.engine) agenda.old agenda.new self.old self.new) }
+        ensures tally { OnOk result (tally_of self.new.exercise
+            ≡ (struck_at_random plan.now.crashes self.old.words (standing_of self.old)).tally) }
         ensures started { OnOk result (self.new.exercise.delayed_started ≡ self.old.exercise.delayed_started) }
     {
         let Some(random) = random_of(plan.crashes.as_slice()) else {
@@ -263,11 +272,15 @@ impl<D: EngineDefinition> World<D> {
 
     /// Crashes the participants whose heights have entered the windows in which they are to crash.
     pub fn enter_windows(&mut self, plan: &Plan<D>, agenda: &mut Agenda) -> Result<(), Stop>
-        ensures changes_alone { OnOk result (ChangesEnginesAlone (D.peer_of plan.now.engine) agenda.old agenda.new self.old self.new) }
-        ensures standing { OnOk result (standing_of self.new ≡ windows_entered D.State.height_of 0 plan.now.crashes (standing_of self.old)) }
-        ensures unpassed { OnOk result (first_passed D.State.height_of 0 plan.now.crashes (standing_of self.old) ≡ None) }
+        ensures changes_alone { OnOk result
+            (ChangesEnginesAlone (D.peer_of plan.now.engine) agenda.old agenda.new self.old self.new) }
+        ensures standing { OnOk result (standing_of self.new
+            ≡ windows_entered D.State.height_of 0 plan.now.crashes (standing_of self.old)) }
+        ensures unpassed { OnOk result
+            (first_passed D.State.height_of 0 plan.now.crashes (standing_of self.old) ≡ None) }
         ensures started { OnOk result (self.new.exercise.delayed_started ≡ self.old.exercise.delayed_started) }
-        ensures skips { IfErr result (IsSkip (λ h. first_passed D.State.height_of 0 plan.now.crashes (standing_of self.old) ≡ Some h)) }
+        ensures skips { IfErr result (IsSkip
+            (λ h. first_passed D.State.height_of 0 plan.now.crashes (standing_of self.old) ≡ Some h)) }
         ensures late { IfErr result (λ s. IsTrue (stops_late s)) }
     {
         for (index, crash) in plan.crashes.as_slice().iter().enumerate() {
@@ -281,11 +294,14 @@ impl<D: EngineDefinition> World<D> {
 
     /// Looks at the window of the configured failure at this place, if it is one.
     fn look_at(&mut self, agenda: &mut Agenda, index: usize, crash: &Crash) -> Result<(), Stop>
-        ensures changes_alone { OnOk result ((peer_of : _) → ChangesEnginesAlone peer_of agenda.old agenda.new self.old self.new) }
-        ensures standing { OnOk result (standing_of self.new ≡ looked_at D.State.height_of index crash.now (standing_of self.old)) }
+        ensures changes_alone { OnOk result
+            ((peer_of : _) → ChangesEnginesAlone peer_of agenda.old agenda.new self.old self.new) }
+        ensures standing { OnOk result
+            (standing_of self.new ≡ looked_at D.State.height_of index crash.now (standing_of self.old)) }
         ensures unpassed { OnOk result (passed_at D.State.height_of index crash.now (standing_of self.old) ≡ None) }
         ensures started { OnOk result (self.new.exercise.delayed_started ≡ self.old.exercise.delayed_started) }
-        ensures skips { IfErr result (IsSkip (λ h. passed_at D.State.height_of index crash.now (standing_of self.old) ≡ Some h)) }
+        ensures skips { IfErr result
+            (IsSkip (λ h. passed_at D.State.height_of index crash.now (standing_of self.old) ≡ Some h)) }
         ensures late { IfErr result (λ s. IsTrue (stops_late s)) }
     {
         match crash {
@@ -317,11 +333,19 @@ impl<D: EngineDefinition> World<D> {
         index: usize,
         window: Window,
     ) -> Result<(), Stop>
-        ensures changes_alone { OnOk result ((peer_of : _) → ChangesEnginesAlone peer_of agenda.old agenda.new self.old self.new) }
-        ensures standing { OnOk result (standing_of self.new ≡ window_entered D.State.height_of index window.participant window.first window.last (standing_of self.old)) }
-        ensures unpassed { OnOk result (window_passed D.State.height_of index window.participant window.first window.last (standing_of self.old) ≡ None) }
+        ensures changes_alone { OnOk result
+            ((peer_of : _) → ChangesEnginesAlone peer_of agenda.old agenda.new self.old self.new) }
+        ensures standing { OnOk result (standing_of self.new
+            ≡ window_entered D.State.height_of index window.participant window.first window.last
+            (standing_of self.old)) }
+        ensures unpassed { OnOk result (window_passed D.State.height_of index window.participant
+            window.first window.last (standing_of self.old)
+            ≡ None) }
         ensures started { OnOk result (self.new.exercise.delayed_started ≡ self.old.exercise.delayed_started) }
-        ensures skips { IfErr result (IsSkip (λ h. window_passed D.State.height_of index window.participant window.first window.last (standing_of self.old) ≡ Some h)) }
+        ensures skips { IfErr result (IsSkip (λ h.
+            window_passed D.State.height_of index window.participant window.first window.last
+            (standing_of self.old)
+            ≡ Some h)) }
         ensures late { IfErr result (λ s. IsTrue (stops_late s)) }
     {
         if self.exercise.has_entered(index) {
@@ -363,10 +387,16 @@ impl<D: EngineDefinition> World<D> {
         agenda: &mut Agenda,
         tracker: &ProgressTracker,
     ) -> Result<(), OutOfMemory>
-        ensures changes_alone { OnOk result (ChangesEnginesAlone (D.peer_of plan.now.engine) agenda.old agenda.new self.old self.new) }
+        ensures changes_alone { OnOk result
+            (ChangesEnginesAlone (D.peer_of plan.now.engine) agenda.old agenda.new self.old self.new) }
         ensures tally { OnOk result (tally_of self.new.exercise ≡ tally_of self.old.exercise) }
-        ensures launches { OnOk result ((launched : List Peer) × Launches plan.now.participants plan.now.crashes self.old.exercise.delayed_started self.new.exercise.delayed_started launched × (agenda.new.events ≡ agenda.old.events ++ first_starts launched)) }
-        ensures started { OnOk result (self.new.exercise.delayed_started ≡ (self.old.exercise.delayed_started || starts plan.now.participants plan.now.crashes tracker.now)) }
+        ensures launches { OnOk result ((launched : List Peer)
+            × Launches plan.now.participants plan.now.crashes self.old.exercise.delayed_started
+            self.new.exercise.delayed_started launched
+            × (agenda.new.events ≡ agenda.old.events ++ first_starts launched)) }
+        ensures started { OnOk result (self.new.exercise.delayed_started
+            ≡ (self.old.exercise.delayed_started
+            || starts plan.now.participants plan.now.crashes tracker.now)) }
     {
         let participants = plan.participants.as_slice();
         let crashes = plan.crashes.as_slice();
@@ -393,7 +423,8 @@ impl<D: EngineDefinition> World<D> {
         agenda: &mut Agenda,
         participants: Vec<Peer>,
     ) -> Result<(), OutOfMemory>
-        ensures changes_alone { OnOk result (ChangesEnginesAlone (D.peer_of plan.now.engine) agenda.old agenda.new self.old self.new) }
+        ensures changes_alone { OnOk result
+            (ChangesEnginesAlone (D.peer_of plan.now.engine) agenda.old agenda.new self.old self.new) }
         ensures events { OnOk result (agenda.new.events ≡ agenda.old.events ++ first_starts participants.items) }
         ensures exercise { OnOk result (self.new.exercise ≡ self.old.exercise) }
     {

@@ -102,7 +102,8 @@ impl<Op: Leaf + Copy> Collector<Op> {
     #[tactic(auto, unfolding(crate::specs::Collected::ask_next))]
     pub fn next_ask(&mut self) -> Result<Option<Range<Location>>, OutOfMemory>
         ensures asks { Asks result self.old self.new }
-        ensures within { IfOk result (λ found. IfSome found (λ r. (r.start < r.end) × (r.end ≤ self.old.plan.target.end))) }
+        ensures within { IfOk result
+            (λ found. IfSome found (λ r. (r.start < r.end) × (r.end ≤ self.old.plan.target.end))) }
         ensures outstanding { IfOk result (λ found. IfSome found (λ r. IsOutstanding r (ranges_of self.new.pending))) }
         ensures tiles { Tiles self.new }
     {
@@ -212,7 +213,8 @@ impl<Op: Leaf + Copy> Collector<Op> {
         ensures whole { IfOk result (λ part.
             (length part.ops ≡ self.plan.target.end - self.plan.target.start)
             × (length part.pinned ≡ count_ones self.plan.target.start)) }
-        ensures one { IfOk result (λ part. (ops : Items Op) → Assembles self.plan.target.start self.kept ops → ops ≡ part.ops) }
+        ensures one { IfOk result
+            (λ part. (ops : Items Op) → Assembles self.plan.target.start self.kept ops → ops ≡ part.ops) }
     {
         match self.finish_hashed() {
             Ok(hashed) => Ok(hashed.part),
@@ -227,7 +229,8 @@ impl<Op: Leaf + Copy> Collector<Op> {
         ensures whole { IfOk result (λ h.
             (length h.part.ops ≡ self.plan.target.end - self.plan.target.start)
             × (length h.part.pinned ≡ count_ones self.plan.target.start)) }
-        ensures one { IfOk result (λ h. (ops : Items Op) → Assembles self.plan.target.start self.kept ops → ops ≡ h.part.ops) }
+        ensures one { IfOk result
+            (λ h. (ops : Items Op) → Assembles self.plan.target.start self.kept ops → ops ≡ h.part.ops) }
         ensures leaves { IfOk result (IsHashed Op.spelling) }
     {
         let Collector {

@@ -26,7 +26,11 @@ impl Model for Limits {
 impl Limits {
     /// These limits, None exactly where the batch is 0 or the number of requests is outside 1 to 64.
     pub fn new(batch: u64, outstanding: usize) -> Option<Limits>
-        ensures { MatchOption result ((batch ≡ 0) ⊎ ((outstanding ≡ 0) ⊎ (64 < outstanding))) (λ l. (l ≡ record { batch = batch; outstanding = outstanding }) × (0 < batch) × (0 < outstanding) × (outstanding ≤ 64)) }
+        ensures { MatchOption result ((batch ≡ 0) ⊎ ((outstanding ≡ 0) ⊎ (64 < outstanding))) (λ l.
+            (l ≡ record { batch = batch; outstanding = outstanding })
+            × (0 < batch)
+            × (0 < outstanding)
+            × (outstanding ≤ 64)) }
     {
         if batch == 0 || outstanding == 0 || outstanding > 64 {
             None

@@ -71,7 +71,9 @@ fn place_of(asked: &[Asked], range: &Range<Location>) -> Option<usize>
 
 /// The target for which a range was asked, or else this one.
 pub(crate) fn target_for(asked: &[Asked], range: &Range<Location>, target: &Target) -> Target
-    ensures { result ≡ target_or target.now (option_and_then (λ i. slice_get asked.now i) (place_in range.now asked.now)) }
+    ensures { result
+        ≡ target_or target.now
+        (option_and_then (λ i. slice_get asked.now i) (place_in range.now asked.now)) }
 {
     match place_of(asked, range) {
         Some(place) => asked[place].target,

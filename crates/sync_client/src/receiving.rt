@@ -31,7 +31,8 @@ pub fn receive<Op: Spell, L: Link>(
     requires most { length buffer.old ≤ 4096 }
     requires live { machine.old.closed ≡ false }
     ensures exact { IsTrue L.exact → CountKept result (L.faults link.old) (L.faults link.new) }
-    ensures steady { L.steady link.old → L.steady link.new × NeverNetwork result (L.faults link.old) (L.faults link.new) }
+    ensures steady { L.steady link.old →
+        L.steady link.new × NeverNetwork result (L.faults link.old) (L.faults link.new) }
     ensures receives { Receives result machine.old machine.new
         (L.wire link.old) (L.wire link.new) (L.faults link.old) (L.faults link.new) }
     ensures gives { Gives result machine.old machine.new (L.service link.old) (L.service link.new) }

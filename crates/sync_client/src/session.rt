@@ -46,7 +46,8 @@ fn fill<Op: Leaf + Spell + Copy, L: Link>(
     ensures plan { collector.new.plan ≡ collector.old.plan }
     ensures kept { collector.new.kept ≡ collector.old.kept }
     ensures exact { IsTrue L.exact → CountKept result (L.faults link.old) (L.faults link.new) }
-    ensures steady { L.steady link.old → L.steady link.new × NeverNetwork result (L.faults link.old) (L.faults link.new) }
+    ensures steady { L.steady link.old →
+        L.steady link.new × NeverNetwork result (L.faults link.old) (L.faults link.new) }
     ensures filled { (o : Origin Op) (b : Beside)
         → o.rules ≡ rules_for Op.reading Op.written Op.spelling
         → Came o (seen machine.old collector.old b)
@@ -97,7 +98,8 @@ fn handle<Op: Leaf + Spell + Copy, L: Link, Ts: Targets>(
     ensures strays { OnOk result (strays.old ≤ 1024 → strays.new ≤ 1024) }
     ensures fewer { length (Ts.answers updates.new) ≤ length (Ts.answers updates.old) }
     ensures exact { IsTrue L.exact → CountKept result (L.faults link.old) (L.faults link.new) }
-    ensures steady { L.steady link.old → L.steady link.new × NeverNetwork result (L.faults link.old) (L.faults link.new) }
+    ensures steady { L.steady link.old →
+        L.steady link.new × NeverNetwork result (L.faults link.old) (L.faults link.new) }
     ensures handled { (o : Origin Op)
         → o.rules ≡ rules_for Op.reading Op.written Op.spelling
         → Came o
@@ -150,7 +152,8 @@ fn collect<Op: Leaf + Spell + Copy, L: Link, Ts: Targets>(
     ensures complete { OnOk result (is_complete collector.new ≡ true) }
     ensures tiles { Tiles collector.new }
     ensures exact { IsTrue L.exact → CountKept result (L.faults link.old) (L.faults link.new) }
-    ensures steady { L.steady link.old → L.steady link.new × NeverNetwork result (L.faults link.old) (L.faults link.new) }
+    ensures steady { L.steady link.old →
+        L.steady link.new × NeverNetwork result (L.faults link.old) (L.faults link.new) }
     ensures collects { (o : Origin Op)
         → o.rules ≡ rules_for Op.reading Op.written Op.spelling
         → Came o (seen machine.old collector.old (beside 0 (Ts.answers updates.old)))
@@ -208,7 +211,8 @@ pub fn sync_full<Op: Leaf + Spell + Copy, L: Link, Ts: Targets>(
         machine.new (Ts.answers updates.new) (L.wire link.new) (L.faults link.new) }
     ensures took { TakesUpdates result target.now (Ts.answers updates.old) (Ts.answers updates.new) }
     ensures exact { IsTrue L.exact → CountKept result (L.faults link.old) (L.faults link.new) }
-    ensures steady { L.steady link.old → L.steady link.new × NeverNetwork result (L.faults link.old) (L.faults link.new) }
+    ensures steady { L.steady link.old →
+        L.steady link.new × NeverNetwork result (L.faults link.old) (L.faults link.new) }
     ensures part { IfOk result (λ synced. IsPartOf Op.spelling synced.0 synced.1) }
     ensures laws { SessionLaws (rules_for Op.reading Op.written Op.spelling)
         (started (first_plan target.now limits.now) machine.old.next (Ts.answers updates.old)) }
@@ -243,7 +247,8 @@ pub fn sync_hashed<Op: Leaf + Spell + Copy, L: Link, Ts: Targets>(
         machine.new (Ts.answers updates.new) (L.wire link.new) (L.faults link.new) }
     ensures took { TakesUpdates result target.now (Ts.answers updates.old) (Ts.answers updates.new) }
     ensures exact { IsTrue L.exact → CountKept result (L.faults link.old) (L.faults link.new) }
-    ensures steady { L.steady link.old → L.steady link.new × NeverNetwork result (L.faults link.old) (L.faults link.new) }
+    ensures steady { L.steady link.old →
+        L.steady link.new × NeverNetwork result (L.faults link.old) (L.faults link.new) }
     ensures part { IfOk result (λ synced. IsPartOf Op.spelling synced.0 synced.1.part) }
     ensures leaves { IfOk result (λ synced. IsHashed Op.spelling synced.1) }
     ensures laws { SessionLaws (rules_for Op.reading Op.written Op.spelling)

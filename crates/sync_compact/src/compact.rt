@@ -30,7 +30,8 @@ impl<F: CompactFamily, H: Hasher> ServeMode<F, Log<F, H>> for CompactMode {
         db: &Log<F, H>,
         message: Message<F::Op>,
     ) -> Result<Message<F::Op>, OutOfMemory>
-        ensures answer { IfOk result (λ reply. reply ≡ compact_core H.digest (compact_of H.digest F.Op.spelling db.now) message) }
+        ensures answer { IfOk result
+            (λ reply. reply ≡ compact_core H.digest (compact_of H.digest F.Op.spelling db.now) message) }
         ensures limits { IfOk result (λ reply. MessageFits (λ op. Unit {0}) reply) }
     {
         compact_reply::<F, H, Log<F, H>>(alloc, db, message)

@@ -22,7 +22,8 @@ pub(crate) fn send_request<L: Link>(
     link: &mut L,
 ) -> Result<(), SyncFault>
     ensures exact { IsTrue L.exact → CountKept result (L.faults link.old) (L.faults link.new) }
-    ensures steady { L.steady link.old → L.steady link.new × NeverNetwork result (L.faults link.old) (L.faults link.new) }
+    ensures steady { L.steady link.old →
+        L.steady link.new × NeverNetwork result (L.faults link.old) (L.faults link.new) }
     ensures sends { Sends result made (L.wire link.old) (L.wire link.new) (L.faults link.old) (L.faults link.new) }
     ensures serving { ServesSent result made (L.service link.old) (L.service link.new) }
 {
@@ -66,8 +67,10 @@ fn next_answer<Op: Spell, L: Link>(
     requires most { length buffer.old ≤ 4096 }
     requires live { machine.old.closed ≡ false }
     ensures exact { IsTrue L.exact → CountKept result (L.faults link.old) (L.faults link.new) }
-    ensures steady { L.steady link.old → L.steady link.new × NeverNetwork result (L.faults link.old) (L.faults link.new) }
-    ensures answers { NextAnswer result Op.reading machine.old machine.new (L.wire link.old) (L.wire link.new) (L.faults link.old) (L.faults link.new) }
+    ensures steady { L.steady link.old →
+        L.steady link.new × NeverNetwork result (L.faults link.old) (L.faults link.new) }
+    ensures answers { NextAnswer result Op.reading machine.old machine.new (L.wire link.old)
+        (L.wire link.new) (L.faults link.old) (L.faults link.new) }
     ensures serving { (held : LogData) (body : Items ℕ)
         → length body ≤ 10485760
         → IsDue held (string_written body) machine.old.held (L.service link.old)
@@ -93,8 +96,12 @@ pub(crate) fn await_reply<Op: Spell, L: Link>(
 ) -> Result<Message<Op>, SyncFault>
     requires live { machine.old.closed ≡ false }
     ensures exact { IsTrue L.exact → CountKept result (L.faults link.old) (L.faults link.new) }
-    ensures steady { L.steady link.old → L.steady link.new × NeverNetwork result (L.faults link.old) (L.faults link.new) }
-    ensures awaits { (p : PendingValue) → machine.old.pending ≡ p ∷ [] → Awaits result Op.reading p machine.old machine.new (L.wire link.old) (L.wire link.new) (L.faults link.old) (L.faults link.new) }
+    ensures steady { L.steady link.old →
+        L.steady link.new × NeverNetwork result (L.faults link.old) (L.faults link.new) }
+    ensures awaits { (p : PendingValue) →
+        machine.old.pending ≡ p ∷ [] →
+        Awaits result Op.reading p machine.old machine.new (L.wire link.old) (L.wire link.new)
+        (L.faults link.old) (L.faults link.new) }
     ensures serving { (held : LogData) (p : PendingValue) (body : Items ℕ) (reply : Message Op)
         → length body ≤ 10485760
         → all_of (message_at Op.reading) body ≡ Ok reply

@@ -27,12 +27,15 @@ pub fn fetch_compact<F: CompactFamily, L: Link>(
 where
     F::Op: Spell,
     requires { machine.old.pending ≡ [] }
-    ensures fetched { CompactFetched sha256 F.Op.spelling F.floor_of target.now result F.Op.reading F.Op.written machine.old machine.new (L.wire link.old) (L.wire link.new) (L.faults link.old) (L.faults link.new) }
+    ensures fetched { CompactFetched sha256 F.Op.spelling F.floor_of target.now result F.Op.reading
+        F.Op.written machine.old machine.new (L.wire link.old) (L.wire link.new) (L.faults link.old)
+        (L.faults link.new) }
     ensures root { IfOk result (λ log. compact_root sha256 log ≡ target.now.root) }
     ensures size { IfOk result (λ log. log.size ≡ target.now.leaf_count) }
     ensures one_way { OneWay F.Op.reading }
     ensures exact { IsTrue L.exact → KeptUnlessNetwork result (L.faults link.old) (L.faults link.new) }
-    ensures steady { L.steady link.old → L.steady link.new × KeptAndNoNetwork result (L.faults link.old) (L.faults link.new) }
+    ensures steady { L.steady link.old →
+        L.steady link.new × KeptAndNoNetwork result (L.faults link.old) (L.faults link.new) }
 {
     let state = match fetch_state(target, machine, link) {
         Ok(state) => state,
@@ -51,10 +54,12 @@ fn fetch_state<Op: Spell, L: Link>(
     link: &mut L,
 ) -> Result<CompactState<Op>, SyncFault>
     requires { machine.old.pending ≡ [] }
-    ensures fetched { StateFetched target.now result Op.reading Op.written machine.old machine.new (L.wire link.old) (L.wire link.new) (L.faults link.old) (L.faults link.new) }
+    ensures fetched { StateFetched target.now result Op.reading Op.written machine.old machine.new
+        (L.wire link.old) (L.wire link.new) (L.faults link.old) (L.faults link.new) }
     ensures one_way { OneWay Op.reading }
     ensures exact { IsTrue L.exact → CountKept result (L.faults link.old) (L.faults link.new) }
-    ensures steady { L.steady link.old → L.steady link.new × NeverNetwork result (L.faults link.old) (L.faults link.new) }
+    ensures steady { L.steady link.old →
+        L.steady link.new × NeverNetwork result (L.faults link.old) (L.faults link.new) }
 {
     let made = machine.submit_compact_state(*target);
     match send_request(made, link) {

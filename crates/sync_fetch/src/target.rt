@@ -20,10 +20,12 @@ pub fn fetch_target<Op: Spell, L: Link>(
     link: &mut L,
 ) -> Result<Target, SyncFault>
     requires { machine.old.pending ≡ [] }
-    ensures fetched { TargetFetched result Op.reading Op.written machine.old machine.new (L.wire link.old) (L.wire link.new) (L.faults link.old) (L.faults link.new) }
+    ensures fetched { TargetFetched result Op.reading Op.written machine.old machine.new (L.wire link.old)
+        (L.wire link.new) (L.faults link.old) (L.faults link.new) }
     ensures one_way { OneWay Op.reading }
     ensures exact { IsTrue L.exact → CountKept result (L.faults link.old) (L.faults link.new) }
-    ensures steady { L.steady link.old → L.steady link.new × NeverNetwork result (L.faults link.old) (L.faults link.new) }
+    ensures steady { L.steady link.old →
+        L.steady link.new × NeverNetwork result (L.faults link.old) (L.faults link.new) }
     ensures serving { (held : LogData) (h : IsToldOf Op.written held)
         → Begins held machine.old (L.service link.old)
         → FetchesTarget Op.written held h.log result machine.new (L.service link.new) }
@@ -49,10 +51,12 @@ pub fn fetch_compact_target<Op: Spell, L: Link>(
     link: &mut L,
 ) -> Result<CompactTarget, SyncFault>
     requires { machine.old.pending ≡ [] }
-    ensures fetched { CompactTargetFetched result Op.reading Op.written machine.old machine.new (L.wire link.old) (L.wire link.new) (L.faults link.old) (L.faults link.new) }
+    ensures fetched { CompactTargetFetched result Op.reading Op.written machine.old machine.new
+        (L.wire link.old) (L.wire link.new) (L.faults link.old) (L.faults link.new) }
     ensures one_way { OneWay Op.reading }
     ensures exact { IsTrue L.exact → CountKept result (L.faults link.old) (L.faults link.new) }
-    ensures steady { L.steady link.old → L.steady link.new × NeverNetwork result (L.faults link.old) (L.faults link.new) }
+    ensures steady { L.steady link.old →
+        L.steady link.new × NeverNetwork result (L.faults link.old) (L.faults link.new) }
     ensures serving { (held : LogData)
         → Begins held machine.old (L.service link.old)
         → RefusesCompact held result (L.service link.new) }

@@ -67,7 +67,8 @@ impl<Op: Spell> Machine<Op> {
         max_ops: NonZeroU64,
         include_pinned_nodes: bool,
     ) -> Result<Submitted, SubmitRefusal>
-        ensures { Submits Op.written (Operations op_count start_loc max_ops include_pinned_nodes) result self.old self.new }
+        ensures { Submits Op.written (Operations op_count start_loc max_ops include_pinned_nodes) result
+            self.old self.new }
     {
         self.submit(Ask::Operations {
             op_count,

@@ -59,7 +59,10 @@ pub struct InvalidRange {
 impl GetOperationsRequest {
     /// Refuses a request exactly where its first place is at or above its number of leaves.
     pub fn validate(&self) -> Result<(), InvalidRange>
-        ensures { MatchResult result (λ _. self.now.start_loc < self.now.op_count) (λ e. (self.now.op_count ≤ self.now.start_loc) × (e.start ≡ self.now.start_loc) × (e.op_count ≡ self.now.op_count)) }
+        ensures { MatchResult result (λ _. self.now.start_loc < self.now.op_count) (λ e.
+            (self.now.op_count ≤ self.now.start_loc)
+            × (e.start ≡ self.now.start_loc)
+            × (e.op_count ≡ self.now.op_count)) }
     {
         if self.start_loc.get() < self.op_count.get() {
             Ok(())

@@ -69,7 +69,8 @@ fn request_in_body<Op: Spell>(
     alloc: Global,
     body: &[u8],
 ) -> Result<Option<Message<Op>>, OutOfMemory>
-    ensures read { IfOk result (λ found. request_read (all_of (message_at nothing_at) body.now) ≡ option_and_then request_in found) }
+    ensures read { IfOk result (λ found.
+        request_read (all_of (message_at nothing_at) body.now) ≡ option_and_then request_in found) }
     ensures request { IfOk result (λ found. IfSome found (λ m. is_some (request_in m) ≡ true)) }
 {
     match decode::<Message<Op>>(alloc, body) {

@@ -26,7 +26,8 @@ impl<F: Family, H: Hasher> ServeMode<F, Log<F, H>> for FullMode {
         db: &Log<F, H>,
         message: Message<F::Op>,
     ) -> Result<Message<F::Op>, OutOfMemory>
-        ensures answer { IfOk result (λ reply. reply ≡ core H.digest F.Op.spelling (log_floor F.floor_of db.now) db.now message) }
+        ensures answer { IfOk result
+            (λ reply. reply ≡ core H.digest F.Op.spelling (log_floor F.floor_of db.now) db.now message) }
         ensures limits { IfOk result (λ reply. MessageFits (λ op. Unit {0}) reply) }
     {
         match message {
@@ -49,7 +50,8 @@ fn target_reply<F: Family, H: Hasher>(
     log: &Log<F, H>,
     number: u64,
 ) -> Result<Message<F::Op>, OutOfMemory>
-    ensures answer { IfOk result (λ reply. reply ≡ target_reply H.digest F.Op.spelling (log_floor F.floor_of log.now) log.now number) }
+    ensures answer { IfOk result (λ reply.
+        reply ≡ target_reply H.digest F.Op.spelling (log_floor F.floor_of log.now) log.now number) }
     ensures limits { IfOk result (λ reply. MessageFits (λ op. Unit {0}) reply) }
 {
     match Target::new(log.root(), log.sync_boundary(), log.size()) {

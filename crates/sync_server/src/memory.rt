@@ -61,7 +61,17 @@ where
         cuts: Vec<usize>,
         failing: Vec<u64>,
     ) -> MemoryLink<F>
-        ensures { result ≡ record { log = log; order = order.items; begun = 0; delivering = []; waiting = []; lost = false; cuts = record { cuts = cuts.items; made = 0 }; calls = record { made = 0; failing = failing.items; faults = 0 } } }
+        ensures { result
+            ≡ record {
+              log = log;
+              order = order.items;
+              begun = 0;
+              delivering = [];
+              waiting = [];
+              lost = false;
+              cuts = record { cuts = cuts.items; made = 0 };
+              calls = record { made = 0; failing = failing.items; faults = 0 };
+            } }
     {
         MemoryLink {
             alloc,
@@ -104,7 +114,9 @@ where
         ensures counted { Counts result self.old.calls self.new.calls }
         ensures delivered { MemoryReceives result buffer.new self.old self.new }
         ensures later { self.old.calls.faults ≤ self.new.calls.faults }
-        ensures served { ServiceReceived (service_of self.old.lost (service_told F.Op.spelling F.floor_of self.old)) (service_of self.new.lost (service_told F.Op.spelling F.floor_of self.new)) result buffer.new }
+        ensures served { ServiceReceived
+            (service_of self.old.lost (service_told F.Op.spelling F.floor_of self.old))
+            (service_of self.new.lost (service_told F.Op.spelling F.floor_of self.new)) result buffer.new }
     {
         let most = self.cuts.next();
         if self.calls.fails() {
@@ -176,8 +188,11 @@ where
     fn send(&mut self, bytes: &[u8]) -> Result<(), LinkError>
         ensures cause { HasCauseOf Failed self.old.calls.faults self.new.calls.faults result }
         ensures exact_count { CountStays self.old.calls.faults self.new.calls.faults result }
-        ensures steady_on { self.old.calls.failing ≡ [] → (self.new.calls.failing ≡ []) × CannotFail self.old.calls.faults self.new.calls.faults result }
-        ensures service_now { service_of self.new.lost (service_told F.Op.spelling F.floor_of self.new) ≡ service_sent result bytes.now (service_of self.old.lost (service_told F.Op.spelling F.floor_of self.old)) }
+        ensures steady_on { self.old.calls.failing ≡ [] →
+            (self.new.calls.failing ≡ []) × CannotFail self.old.calls.faults self.new.calls.faults result }
+        ensures service_now { service_of self.new.lost (service_told F.Op.spelling F.floor_of self.new)
+            ≡ service_sent result bytes.now
+            (service_of self.old.lost (service_told F.Op.spelling F.floor_of self.old)) }
         ensures counted { Counts result self.old.calls self.new.calls }
         ensures owed { MemorySends F.Op.spelling F.floor_of result bytes.now self.old self.new }
     {
@@ -188,8 +203,11 @@ where
         ensures bound { IfOk result (λ n. n ≤ length buffer.new) }
         ensures cause { HasCauseOf Failed self.old.calls.faults self.new.calls.faults result }
         ensures exact_count { CountStays self.old.calls.faults self.new.calls.faults result }
-        ensures steady_on { self.old.calls.failing ≡ [] → (self.new.calls.failing ≡ []) × CannotFail self.old.calls.faults self.new.calls.faults result }
-        ensures service_now { ServiceReceived (service_of self.old.lost (service_told F.Op.spelling F.floor_of self.old)) (service_of self.new.lost (service_told F.Op.spelling F.floor_of self.new)) result buffer.new }
+        ensures steady_on { self.old.calls.failing ≡ [] →
+            (self.new.calls.failing ≡ []) × CannotFail self.old.calls.faults self.new.calls.faults result }
+        ensures service_now { ServiceReceived
+            (service_of self.old.lost (service_told F.Op.spelling F.floor_of self.old))
+            (service_of self.new.lost (service_told F.Op.spelling F.floor_of self.new)) result buffer.new }
         ensures counted { Counts result self.old.calls self.new.calls }
         ensures delivered { MemoryReceives result buffer.new self.old self.new }
     {

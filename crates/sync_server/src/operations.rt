@@ -21,7 +21,11 @@ pub(crate) fn operations_reply<F: Family, H: Hasher>(
     log: &Log<F, H>,
     request: &GetOperationsRequest,
 ) -> Result<Message<F::Op>, OutOfMemory>
-    ensures answer { IfOk result (λ reply. reply ≡ operations_reply H.digest F.Op.spelling log.now request.now.request_id request.now.op_count request.now.start_loc (non_zero_u64_get request.now.max_ops) request.now.include_pinned_nodes) }
+    ensures answer { IfOk result (λ reply.
+        reply
+        ≡ operations_reply H.digest F.Op.spelling log.now request.now.request_id request.now.op_count
+        request.now.start_loc (non_zero_u64_get request.now.max_ops)
+        request.now.include_pinned_nodes) }
     ensures limits { IfOk result (λ reply. MessageFits (λ op. Unit {0}) reply) }
 {
     let refused = range_refusal(
@@ -46,7 +50,13 @@ fn answer<F: Family, H: Hasher>(
     requires some { request.now.start_loc < request.now.op_count }
     requires held { request.now.op_count ≤ log_size log.now }
     requires kept { log.now.front ≤ request.now.start_loc }
-    ensures answer { IfOk result (λ reply. reply ≡ operations_answer H.digest F.Op.spelling log.now request.now.request_id request.now.op_count request.now.start_loc (served_count (log_size log.now) request.now.op_count request.now.start_loc (non_zero_u64_get request.now.max_ops)) request.now.include_pinned_nodes) }
+    ensures answer { IfOk result (λ reply.
+        reply
+        ≡ operations_answer H.digest F.Op.spelling log.now request.now.request_id request.now.op_count
+        request.now.start_loc
+        (served_count (log_size log.now) request.now.op_count request.now.start_loc
+        (non_zero_u64_get request.now.max_ops))
+        request.now.include_pinned_nodes) }
     ensures limits { IfOk result (λ reply. MessageFits (λ op. Unit {0}) reply) }
 {
     let most = batch_of(request.max_ops);
@@ -82,7 +92,8 @@ fn pinned<F: Family, H: Hasher>(
 ) -> Result<Option<List<Digest>>, OutOfMemory>
     requires held { start ≤ log_size log.now }
     requires kept { log.now.front ≤ start }
-    ensures nodes { IfOk result (λ nodes. nodes ≡ pinned_for wanted (log_peaks_at H.digest F.Op.spelling log.now start)) }
+    ensures nodes { IfOk result
+        (λ nodes. nodes ≡ pinned_for wanted (log_peaks_at H.digest F.Op.spelling log.now start)) }
     ensures limits { IfOk result (λ nodes. PinnedFit nodes) }
 {
     if !wanted {

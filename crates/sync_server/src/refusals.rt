@@ -52,7 +52,8 @@ pub(crate) fn range_refusal<Op>(
     count: u64,
     start: u64,
 ) -> Result<Option<Message<Op>>, OutOfMemory>
-    ensures refused { IfOk result (λ refused. refused ≡ option_map (refuse number) (range_refused front size count start)) }
+    ensures refused { IfOk result
+        (λ refused. refused ≡ option_map (refuse number) (range_refused front size count start)) }
     ensures limits { IfOk result (λ refused. IfSome refused (λ m. MessageFits (λ op. Unit {0}) m)) }
 {
     if count <= start {

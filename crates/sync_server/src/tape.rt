@@ -35,7 +35,15 @@ impl TapeLink {
     /// and at least one byte; past the cuts it gives as many as fit. Sends and recvs are numbered together,
     /// from 0, and those in `failing` fail.
     pub fn new(alloc: Global, bytes: Vec<u8>, cuts: Vec<usize>, failing: Vec<u64>) -> TapeLink
-        ensures { result ≡ record { given = []; left = bytes.items; ended = false; sent = []; cuts = record { cuts = cuts.items; made = 0 }; calls = record { made = 0; failing = failing.items; faults = 0 } } }
+        ensures { result
+            ≡ record {
+              given = [];
+              left = bytes.items;
+              ended = false;
+              sent = [];
+              cuts = record { cuts = cuts.items; made = 0 };
+              calls = record { made = 0; failing = failing.items; faults = 0 };
+            } }
     {
         TapeLink {
             bytes,
@@ -113,7 +121,8 @@ impl Link for TapeLink {
     fn send(&mut self, bytes: &[u8]) -> Result<(), LinkError>
         ensures cause { HasCauseOf Failed self.old.calls.faults self.new.calls.faults result }
         ensures exact_count { CountStays self.old.calls.faults self.new.calls.faults result }
-        ensures steady_on { self.old.calls.failing ≡ [] → (self.new.calls.failing ≡ []) × CannotFail self.old.calls.faults self.new.calls.faults result }
+        ensures steady_on { self.old.calls.failing ≡ [] →
+            (self.new.calls.failing ≡ []) × CannotFail self.old.calls.faults self.new.calls.faults result }
         ensures wire_now { Some (tape_wire self.new) ≡ wire_sent result bytes.now (Some (tape_wire self.old)) }
         ensures counted { Counts result self.old.calls self.new.calls }
         ensures kept { TapeSends result bytes.now self.old self.new }
@@ -125,7 +134,8 @@ impl Link for TapeLink {
         ensures bound { IfOk result (λ n. n ≤ length buffer.new) }
         ensures cause { HasCauseOf Failed self.old.calls.faults self.new.calls.faults result }
         ensures exact_count { CountStays self.old.calls.faults self.new.calls.faults result }
-        ensures steady_on { self.old.calls.failing ≡ [] → (self.new.calls.failing ≡ []) × CannotFail self.old.calls.faults self.new.calls.faults result }
+        ensures steady_on { self.old.calls.failing ≡ [] →
+            (self.new.calls.failing ≡ []) × CannotFail self.old.calls.faults self.new.calls.faults result }
         ensures wire_now { Some (tape_wire self.new) ≡ wire_received result buffer.new (Some (tape_wire self.old)) }
         ensures ends_again { EndsAgain (Some (tape_wire self.old)) result }
         ensures counted { Counts result self.old.calls self.new.calls }

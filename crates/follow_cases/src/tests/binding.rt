@@ -45,7 +45,9 @@ fn bound<Op: Leaf + Spell + Copy, L: Link, M: Link>(
     link: &mut L,
     other: &mut M,
 ) -> Result<Both<Op>, SyncFault>
-    ensures { IfOk result (λ bound. MatchOption bound.met (bound.one ≡ bound.other) (λ pair. Collides sha256 pair.0.items pair.1.items)) }
+    ensures { IfOk result (λ bound.
+        MatchOption bound.met (bound.one ≡ bound.other)
+        (λ pair. Collides sha256 pair.0.items pair.1.items)) }
 {
     let end = target.end.get();
     let one = fetched::<Op, L>(alloc, target, limits, link)?;

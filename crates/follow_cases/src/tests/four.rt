@@ -81,7 +81,8 @@ fn whole(log: &Log<AnyFamily, Sha256Hasher>) -> Target
 fn link_to(alloc: Global, log: Log<AnyFamily, Sha256Hasher>) -> MemoryLink<AnyFamily>
     ensures steady { result.calls.failing ≡ [] }
     ensures count { result.calls.faults ≡ 0 }
-    ensures serves { OwesNothing (data_of any_spelling any_floor log) (service_of result.lost (service_told any_spelling any_floor result)) }
+    ensures serves { OwesNothing (data_of any_spelling any_floor log)
+        (service_of result.lost (service_told any_spelling any_floor result)) }
 {
     let order = Vec::new(alloc);
     let cuts = Vec::new(alloc);

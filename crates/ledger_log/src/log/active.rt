@@ -58,7 +58,10 @@ impl<F: KeyedFamily, H: Hasher> Log<F, H> {
         requires most { at < log_size self.now + length more.now }
         requires room { log_size self.now + length more.now ≤ 2 ^ 62 }
         requires later { IsIndex F.write_of later.now (log_size self.now) more.now }
-        ensures all { OnOk result (found.new.items ++ living F.write_of (at + 1) (drop (at + 1 - self.now.front) (self.now.ops ++ more.now)) ≡ found.old.items ++ living F.write_of at (drop (at - self.now.front) (self.now.ops ++ more.now))) }
+        ensures all { OnOk result (found.new.items
+            ++ living F.write_of (at + 1) (drop (at + 1 - self.now.front) (self.now.ops ++ more.now))
+            ≡ found.old.items
+            ++ living F.write_of at (drop (at - self.now.front) (self.now.ops ++ more.now))) }
         ensures few { OnOk result (length found.new.items ≤ length found.old.items + 1) }
     {
         if let Some(op) = self.living_at(more, later, at) {
@@ -73,7 +76,9 @@ impl<F: KeyedFamily, H: Hasher> Log<F, H> {
         requires most { at < log_size self.now + length more.now }
         requires room { log_size self.now + length more.now ≤ 2 ^ 62 }
         requires later { IsIndex F.write_of later.now (log_size self.now) more.now }
-        ensures { living F.write_of at (drop (at - self.now.front) (self.now.ops ++ more.now)) ≡ option_to_list (option_map (λ op. (at, op)) result) ++ living F.write_of (at + 1) (drop (at + 1 - self.now.front) (self.now.ops ++ more.now)) }
+        ensures { living F.write_of at (drop (at - self.now.front) (self.now.ops ++ more.now))
+            ≡ option_to_list (option_map (λ op. (at, op)) result)
+            ++ living F.write_of (at + 1) (drop (at + 1 - self.now.front) (self.now.ops ++ more.now)) }
     {
         let place = (at - self.list.front().get()) as usize;
         let op = pick(self.ops.as_slice(), more, place);
@@ -89,7 +94,9 @@ impl<F: KeyedFamily, H: Hasher> Log<F, H> {
     /// The place behind the key's last operation among the log's and those behind it, of which `later` is the
     /// index, 0 where there is none.
     fn end_behind(&self, later: &Index, key: &Key) -> u64
-        ensures { (more : Items F.Op) → IsIndex F.write_of later.now (log_size self.now) more → result ≡ end_after self.now.front 0 (last_write F.write_of key.now (self.now.ops ++ more)) }
+        ensures { (more : Items F.Op) →
+            IsIndex F.write_of later.now (log_size self.now) more →
+            result ≡ end_after self.now.front 0 (last_write F.write_of key.now (self.now.ops ++ more)) }
     {
         let end = end_of(later, key);
         if self.list.size().get() < end {

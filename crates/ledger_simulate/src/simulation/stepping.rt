@@ -129,19 +129,140 @@ impl<'a, D: EngineDefinition> Simulation<'a, D> {
 
     /// Handles the first event, where nothing stops the run before.
     fn advance(mut self) -> Result<Stepped<'a, D>, SimEnd>
-        requires early { early_fault (first_key self.queue) self.handled self.plan.now.max_events self.plan.now.timeout ≡ None }
+        requires early { early_fault (first_key self.queue) self.handled self.plan.now.max_events
+            self.plan.now.timeout
+            ≡ None }
         requires below { self.handled < self.plan.now.max_events }
-        ensures late { (e : EndedView) → result ≡ Err (SimEnd.Fault e) → (IsTrue (is_late e.fault)) × (e.handled ≡ self.entry.handled + 1) × (e.seed ≡ self.entry.seed) × (e.max_events ≡ self.entry.plan.now.max_events) × (e.timeout ≡ self.entry.plan.now.timeout) }
-        ensures comes { (e : EndedView) → result ≡ Err (SimEnd.Fault e) → Comes (ReportsThen (D.peer_of self.entry.plan.now.engine) (D.journal self.entry.plan.now.engine) (D.reports self.entry.plan.now.engine) (told_first self.entry.queue) (empty_agenda self.entry.queue.next) self.entry.world) (SkipsAfter (D.peer_of self.entry.plan.now.engine) (D.journal self.entry.plan.now.engine) (D.reports self.entry.plan.now.engine) D.State.height_of self.entry.plan.now.participants self.entry.plan.now.crashes (Finds (λ p. finalization_complaint p) self.entry.plan.now.finalization_property D.State.height_of D.State.bytes_of (λ c. exit_verdict c) self.entry.plan.now.exit_condition self.entry.plan.now.required_finalizations self.entry.plan.now.participants self.entry.plan.now.crashes self.entry.watch) (told_first self.entry.queue) (empty_agenda self.entry.queue.next) self.entry.world) (MissesAt (D.peer_of self.entry.plan.now.engine) (D.journal self.entry.plan.now.engine) (D.reports self.entry.plan.now.engine) D.State.height_of D.State.bytes_of (Finds (λ p. finalization_complaint p) self.entry.plan.now.finalization_property D.State.height_of D.State.bytes_of (λ c. exit_verdict c) self.entry.plan.now.exit_condition self.entry.plan.now.required_finalizations self.entry.plan.now.participants self.entry.plan.now.crashes self.entry.watch) (λ c. exit_verdict c) self.entry.plan.now.exit_condition self.entry.plan.now.required_finalizations self.entry.plan.now.participants self.entry.plan.now.crashes self.entry.queue self.entry.watch self.entry.world) self.entry.watch e.fault }
-        ensures answered { (e : EndedView) → result ≡ Err (SimEnd.Fault e) → Answered (λ p. finalization_name p) (λ p. finalization_complaint p) (λ p. property_name p) (λ p. property_complaint p) (λ c. exit_name c) (λ c. exit_verdict c) self.entry.plan.now.finalization_property self.entry.plan.now.property self.entry.plan.now.exit_condition (SeesAfter (D.peer_of self.entry.plan.now.engine) (D.journal self.entry.plan.now.engine) (D.reports self.entry.plan.now.engine) D.State.height_of D.State.bytes_of self.entry.plan.now.participants self.entry.plan.now.crashes (Finds (λ p. finalization_complaint p) self.entry.plan.now.finalization_property D.State.height_of D.State.bytes_of (λ c. exit_verdict c) self.entry.plan.now.exit_condition self.entry.plan.now.required_finalizations self.entry.plan.now.participants self.entry.plan.now.crashes self.entry.watch) (told_first self.entry.queue) (empty_agenda self.entry.queue.next) self.entry.world) (Asks (D.peer_of self.entry.plan.now.engine) (D.journal self.entry.plan.now.engine) (D.reports self.entry.plan.now.engine) D.State.height_of D.State.bytes_of self.entry.plan.now.participants self.entry.plan.now.crashes (Finds (λ p. finalization_complaint p) self.entry.plan.now.finalization_property D.State.height_of D.State.bytes_of (λ c. exit_verdict c) self.entry.plan.now.exit_condition self.entry.plan.now.required_finalizations self.entry.plan.now.participants self.entry.plan.now.crashes self.entry.watch) (told_first self.entry.queue) (polls_first self.entry.queue) self.entry.watch (empty_agenda self.entry.queue.next) self.entry.world) (Ends (D.peer_of self.entry.plan.now.engine) (D.journal self.entry.plan.now.engine) (D.reports self.entry.plan.now.engine) D.State.height_of D.State.bytes_of (Finds (λ p. finalization_complaint p) self.entry.plan.now.finalization_property D.State.height_of D.State.bytes_of (λ c. exit_verdict c) self.entry.plan.now.exit_condition self.entry.plan.now.required_finalizations self.entry.plan.now.participants self.entry.plan.now.crashes self.entry.watch) (λ c. exit_verdict c) self.entry.plan.now.exit_condition self.entry.plan.now.required_finalizations self.entry.plan.now.participants self.entry.plan.now.crashes self.entry.queue self.entry.watch self.entry.world) self.entry.watch e.fault }
-        ensures on { (next : _) → result ≡ Ok (Stepped.On next) → Proceeds (D.peer_of self.entry.plan.now.engine) (D.journal self.entry.plan.now.engine) (D.reports self.entry.plan.now.engine) D.State.height_of self.entry.plan.now.participants self.entry.plan.now.crashes (Finds (λ p. finalization_complaint p) self.entry.plan.now.finalization_property D.State.height_of D.State.bytes_of (λ c. exit_verdict c) self.entry.plan.now.exit_condition self.entry.plan.now.required_finalizations self.entry.plan.now.participants self.entry.plan.now.crashes self.entry.watch) self.entry.queue next.queue self.entry.watch next.watch self.entry.world next.world × (next.handled ≡ self.entry.handled + 1) × (next.seed ≡ self.entry.seed) × (next.plan ≡ self.entry.plan) }
-        ensures unmet { (next : _) → result ≡ Ok (Stepped.On next) → IsTrue (polls_first self.entry.queue) → ExitIs (λ c. exit_verdict c) self.entry.plan.now.exit_condition self.entry.plan.now.required_finalizations (target_count self.entry.plan.now.participants self.entry.plan.now.crashes self.entry.world.exercise.delayed_started) (tracker_of self.entry.watch) (active_views D.State.height_of D.State.bytes_of self.entry.world.seats.entries) false }
-        ensures started { (next : _) → result ≡ Ok (Stepped.On next) → next.world.exercise.delayed_started ≡ started_after self.entry.plan.now.participants self.entry.plan.now.crashes self.entry.watch self.entry.world.exercise.delayed_started (drop (length self.entry.watch) next.watch) }
-        ensures done { (r : ResultView) → result ≡ Ok (Stepped.Done r) → Extends self.entry.watch r.updates × (r.handled ≡ self.entry.handled + 1) × (r.seed ≡ self.entry.seed) × (r.max_events ≡ self.entry.plan.now.max_events) × (r.timeout ≡ self.entry.plan.now.timeout) }
-        ensures success { (r : ResultView) → result ≡ Ok (Stepped.Done r) → Succeeds (λ c. exit_verdict c) (λ p. property_complaint p) self.entry.plan.now.participants self.entry.plan.now.crashes self.entry.plan.now.exit_condition self.entry.plan.now.required_finalizations self.entry.plan.now.property r }
-        ensures delayed { (r : ResultView) → result ≡ Ok (Stepped.Done r) → (count : ℕ) × (r.reached ≡ tracker_of (take count r.updates)) × (r.delayed_started ≡ started_where self.entry.plan.now.participants self.entry.plan.now.crashes self.entry.watch self.entry.world.exercise.delayed_started count (drop (length self.entry.watch) r.updates)) }
-        ensures counts { (r : ResultView) → result ≡ Ok (Stepped.Done r) → (more : _) × (end : Ends (D.peer_of self.entry.plan.now.engine) (D.journal self.entry.plan.now.engine) (D.reports self.entry.plan.now.engine) D.State.height_of D.State.bytes_of (Finds (λ p. finalization_complaint p) self.entry.plan.now.finalization_property D.State.height_of D.State.bytes_of (λ c. exit_verdict c) self.entry.plan.now.exit_condition self.entry.plan.now.required_finalizations self.entry.plan.now.participants self.entry.plan.now.crashes self.entry.watch) (λ c. exit_verdict c) self.entry.plan.now.exit_condition self.entry.plan.now.required_finalizations self.entry.plan.now.participants self.entry.plan.now.crashes self.entry.queue self.entry.watch self.entry.world more r.states) × (r.updates ≡ self.entry.watch ++ more) × (tally_shown r ≡ tally_of end.after.exercise) × (r.delayed_started ≡ end.after.exercise.delayed_started) }
-        ensures reports { (r : ResultView) → result ≡ Ok (Stepped.Done r) → Seated (D.peer_of self.entry.plan.now.engine) self.entry.queue.next self.entry.world.seats.entries → Grows (D.reports self.entry.plan.now.engine) self.entry.watch r.updates }
+        ensures late { (e : EndedView) →
+            result ≡ Err (SimEnd.Fault e) →
+            (IsTrue (is_late e.fault))
+            × (e.handled ≡ self.entry.handled + 1)
+            × (e.seed ≡ self.entry.seed)
+            × (e.max_events ≡ self.entry.plan.now.max_events)
+            × (e.timeout ≡ self.entry.plan.now.timeout) }
+        ensures comes { (e : EndedView) →
+            result ≡ Err (SimEnd.Fault e) →
+            Comes
+            (ReportsThen (D.peer_of self.entry.plan.now.engine) (D.journal self.entry.plan.now.engine)
+            (D.reports self.entry.plan.now.engine) (told_first self.entry.queue)
+            (empty_agenda self.entry.queue.next) self.entry.world)
+            (SkipsAfter (D.peer_of self.entry.plan.now.engine) (D.journal self.entry.plan.now.engine)
+            (D.reports self.entry.plan.now.engine) D.State.height_of self.entry.plan.now.participants
+            self.entry.plan.now.crashes
+            (Finds (λ p. finalization_complaint p) self.entry.plan.now.finalization_property
+            D.State.height_of D.State.bytes_of (λ c. exit_verdict c)
+            self.entry.plan.now.exit_condition self.entry.plan.now.required_finalizations
+            self.entry.plan.now.participants self.entry.plan.now.crashes self.entry.watch)
+            (told_first self.entry.queue) (empty_agenda self.entry.queue.next) self.entry.world)
+            (MissesAt (D.peer_of self.entry.plan.now.engine) (D.journal self.entry.plan.now.engine)
+            (D.reports self.entry.plan.now.engine) D.State.height_of D.State.bytes_of
+            (Finds (λ p. finalization_complaint p) self.entry.plan.now.finalization_property
+            D.State.height_of D.State.bytes_of (λ c. exit_verdict c)
+            self.entry.plan.now.exit_condition self.entry.plan.now.required_finalizations
+            self.entry.plan.now.participants self.entry.plan.now.crashes self.entry.watch)
+            (λ c. exit_verdict c) self.entry.plan.now.exit_condition
+            self.entry.plan.now.required_finalizations self.entry.plan.now.participants
+            self.entry.plan.now.crashes self.entry.queue self.entry.watch self.entry.world)
+            self.entry.watch e.fault }
+        ensures answered { (e : EndedView) →
+            result ≡ Err (SimEnd.Fault e) →
+            Answered (λ p. finalization_name p) (λ p. finalization_complaint p) (λ p. property_name p)
+            (λ p. property_complaint p) (λ c. exit_name c) (λ c. exit_verdict c)
+            self.entry.plan.now.finalization_property self.entry.plan.now.property
+            self.entry.plan.now.exit_condition
+            (SeesAfter (D.peer_of self.entry.plan.now.engine) (D.journal self.entry.plan.now.engine)
+            (D.reports self.entry.plan.now.engine) D.State.height_of D.State.bytes_of
+            self.entry.plan.now.participants self.entry.plan.now.crashes
+            (Finds (λ p. finalization_complaint p) self.entry.plan.now.finalization_property
+            D.State.height_of D.State.bytes_of (λ c. exit_verdict c)
+            self.entry.plan.now.exit_condition self.entry.plan.now.required_finalizations
+            self.entry.plan.now.participants self.entry.plan.now.crashes self.entry.watch)
+            (told_first self.entry.queue) (empty_agenda self.entry.queue.next) self.entry.world)
+            (Asks (D.peer_of self.entry.plan.now.engine) (D.journal self.entry.plan.now.engine)
+            (D.reports self.entry.plan.now.engine) D.State.height_of D.State.bytes_of
+            self.entry.plan.now.participants self.entry.plan.now.crashes
+            (Finds (λ p. finalization_complaint p) self.entry.plan.now.finalization_property
+            D.State.height_of D.State.bytes_of (λ c. exit_verdict c)
+            self.entry.plan.now.exit_condition self.entry.plan.now.required_finalizations
+            self.entry.plan.now.participants self.entry.plan.now.crashes self.entry.watch)
+            (told_first self.entry.queue) (polls_first self.entry.queue) self.entry.watch
+            (empty_agenda self.entry.queue.next) self.entry.world)
+            (Ends (D.peer_of self.entry.plan.now.engine) (D.journal self.entry.plan.now.engine)
+            (D.reports self.entry.plan.now.engine) D.State.height_of D.State.bytes_of
+            (Finds (λ p. finalization_complaint p) self.entry.plan.now.finalization_property
+            D.State.height_of D.State.bytes_of (λ c. exit_verdict c)
+            self.entry.plan.now.exit_condition self.entry.plan.now.required_finalizations
+            self.entry.plan.now.participants self.entry.plan.now.crashes self.entry.watch)
+            (λ c. exit_verdict c) self.entry.plan.now.exit_condition
+            self.entry.plan.now.required_finalizations self.entry.plan.now.participants
+            self.entry.plan.now.crashes self.entry.queue self.entry.watch self.entry.world)
+            self.entry.watch e.fault }
+        ensures on { (next : _) →
+            result ≡ Ok (Stepped.On next) →
+            Proceeds (D.peer_of self.entry.plan.now.engine) (D.journal self.entry.plan.now.engine)
+            (D.reports self.entry.plan.now.engine) D.State.height_of self.entry.plan.now.participants
+            self.entry.plan.now.crashes
+            (Finds (λ p. finalization_complaint p) self.entry.plan.now.finalization_property
+            D.State.height_of D.State.bytes_of (λ c. exit_verdict c) self.entry.plan.now.exit_condition
+            self.entry.plan.now.required_finalizations self.entry.plan.now.participants
+            self.entry.plan.now.crashes self.entry.watch)
+            self.entry.queue next.queue self.entry.watch next.watch self.entry.world next.world
+            × (next.handled ≡ self.entry.handled + 1)
+            × (next.seed ≡ self.entry.seed)
+            × (next.plan ≡ self.entry.plan) }
+        ensures unmet { (next : _) →
+            result ≡ Ok (Stepped.On next) →
+            IsTrue (polls_first self.entry.queue) →
+            ExitIs (λ c. exit_verdict c) self.entry.plan.now.exit_condition
+            self.entry.plan.now.required_finalizations
+            (target_count self.entry.plan.now.participants self.entry.plan.now.crashes
+            self.entry.world.exercise.delayed_started)
+            (tracker_of self.entry.watch)
+            (active_views D.State.height_of D.State.bytes_of self.entry.world.seats.entries) false }
+        ensures started { (next : _) →
+            result ≡ Ok (Stepped.On next) →
+            next.world.exercise.delayed_started
+            ≡ started_after self.entry.plan.now.participants self.entry.plan.now.crashes self.entry.watch
+            self.entry.world.exercise.delayed_started (drop (length self.entry.watch) next.watch) }
+        ensures done { (r : ResultView) →
+            result ≡ Ok (Stepped.Done r) →
+            Extends self.entry.watch r.updates
+            × (r.handled ≡ self.entry.handled + 1)
+            × (r.seed ≡ self.entry.seed)
+            × (r.max_events ≡ self.entry.plan.now.max_events)
+            × (r.timeout ≡ self.entry.plan.now.timeout) }
+        ensures success { (r : ResultView) →
+            result ≡ Ok (Stepped.Done r) →
+            Succeeds (λ c. exit_verdict c) (λ p. property_complaint p) self.entry.plan.now.participants
+            self.entry.plan.now.crashes self.entry.plan.now.exit_condition
+            self.entry.plan.now.required_finalizations self.entry.plan.now.property r }
+        ensures delayed { (r : ResultView) →
+            result ≡ Ok (Stepped.Done r) →
+            (count : ℕ)
+            × (r.reached ≡ tracker_of (take count r.updates))
+            × (r.delayed_started
+            ≡ started_where self.entry.plan.now.participants self.entry.plan.now.crashes self.entry.watch
+            self.entry.world.exercise.delayed_started count
+            (drop (length self.entry.watch) r.updates)) }
+        ensures counts { (r : ResultView) →
+            result ≡ Ok (Stepped.Done r) →
+            (more : _)
+            × (end : Ends (D.peer_of self.entry.plan.now.engine) (D.journal self.entry.plan.now.engine)
+            (D.reports self.entry.plan.now.engine) D.State.height_of D.State.bytes_of
+            (Finds (λ p. finalization_complaint p) self.entry.plan.now.finalization_property
+            D.State.height_of D.State.bytes_of (λ c. exit_verdict c) self.entry.plan.now.exit_condition
+            self.entry.plan.now.required_finalizations self.entry.plan.now.participants
+            self.entry.plan.now.crashes self.entry.watch)
+            (λ c. exit_verdict c) self.entry.plan.now.exit_condition
+            self.entry.plan.now.required_finalizations self.entry.plan.now.participants
+            self.entry.plan.now.crashes self.entry.queue self.entry.watch self.entry.world more r.states)
+            × (r.updates ≡ self.entry.watch ++ more)
+            × (tally_shown r ≡ tally_of end.after.exercise)
+            × (r.delayed_started ≡ end.after.exercise.delayed_started) }
+        ensures reports { (r : ResultView) →
+            result ≡ Ok (Stepped.Done r) →
+            Seated (D.peer_of self.entry.plan.now.engine) self.entry.queue.next self.entry.world.seats.entries →
+            Grows (D.reports self.entry.plan.now.engine) self.entry.watch r.updates }
     {
         let plan = self.plan;
         let Some(entry) = self.queue.take() else {
@@ -167,7 +288,14 @@ impl<'a, D: EngineDefinition> Simulation<'a, D> {
     /// Queues the events that were made, each so long after `now`.
     fn go_on(mut self, now: u64, agenda: Agenda) -> Result<Stepped<'a, D>, SimEnd>
         ensures fault { (e : EndedView) → result ≡ Err (SimEnd.Fault e) → ⊥ }
-        ensures on { (next : _) → result ≡ Ok (Stepped.On next) → (next.queue ≡ queued_all self.entry.queue now agenda.events) × (next.watch ≡ self.entry.watch) × (next.world ≡ self.entry.world) × (next.handled ≡ self.entry.handled) × (next.seed ≡ self.entry.seed) × (next.plan ≡ self.entry.plan) }
+        ensures on { (next : _) →
+            result ≡ Ok (Stepped.On next) →
+            (next.queue ≡ queued_all self.entry.queue now agenda.events)
+            × (next.watch ≡ self.entry.watch)
+            × (next.world ≡ self.entry.world)
+            × (next.handled ≡ self.entry.handled)
+            × (next.seed ≡ self.entry.seed)
+            × (next.plan ≡ self.entry.plan) }
         ensures done { (r : ResultView) → result ≡ Ok (Stepped.Done r) → ⊥ }
     {
         match self.queue.add_all(now, agenda.into_events()) {
@@ -178,14 +306,48 @@ impl<'a, D: EngineDefinition> Simulation<'a, D> {
 
     /// Asks the properties and looks whether each configured failure came to something.
     fn finish(self, reached: Reached) -> Result<Stepped<'a, D>, SimEnd>
-        requires { IsReached (λ c. exit_verdict c) self.plan.now.exit_condition self.plan.now.required_finalizations (target_count self.plan.now.participants self.plan.now.crashes self.world.exercise.delayed_started) self.watch reached }
-        ensures late { (e : EndedView) → result ≡ Err (SimEnd.Fault e) → (IsTrue (is_late e.fault)) × (e.handled ≡ self.entry.handled) × (e.seed ≡ self.entry.seed) × (e.max_events ≡ self.entry.plan.now.max_events) × (e.timeout ≡ self.entry.plan.now.timeout) }
-        ensures comes { (e : EndedView) → result ≡ Err (SimEnd.Fault e) → EndComes (λ index. missed_by self.entry.world.exercise self.entry.plan.now.crashes ≡ Some index) self.entry.watch e.fault }
-        ensures answered { (e : EndedView) → result ≡ Err (SimEnd.Fault e) → Answered (λ p. finalization_name p) (λ p. finalization_complaint p) (λ p. property_name p) (λ p. property_complaint p) (λ c. exit_name c) (λ c. exit_verdict c) self.entry.plan.now.finalization_property self.entry.plan.now.property self.entry.plan.now.exit_condition (λ more states. ⊥) (λ more states target. ⊥) (EndsAt reached.states.items) self.entry.watch e.fault }
+        requires { IsReached (λ c. exit_verdict c) self.plan.now.exit_condition
+            self.plan.now.required_finalizations
+            (target_count self.plan.now.participants self.plan.now.crashes
+            self.world.exercise.delayed_started)
+            self.watch reached }
+        ensures late { (e : EndedView) →
+            result ≡ Err (SimEnd.Fault e) →
+            (IsTrue (is_late e.fault))
+            × (e.handled ≡ self.entry.handled)
+            × (e.seed ≡ self.entry.seed)
+            × (e.max_events ≡ self.entry.plan.now.max_events)
+            × (e.timeout ≡ self.entry.plan.now.timeout) }
+        ensures comes { (e : EndedView) →
+            result ≡ Err (SimEnd.Fault e) →
+            EndComes (λ index. missed_by self.entry.world.exercise self.entry.plan.now.crashes ≡ Some index)
+            self.entry.watch e.fault }
+        ensures answered { (e : EndedView) →
+            result ≡ Err (SimEnd.Fault e) →
+            Answered (λ p. finalization_name p) (λ p. finalization_complaint p) (λ p. property_name p)
+            (λ p. property_complaint p) (λ c. exit_name c) (λ c. exit_verdict c)
+            self.entry.plan.now.finalization_property self.entry.plan.now.property
+            self.entry.plan.now.exit_condition (λ more states. ⊥) (λ more states target. ⊥)
+            (EndsAt reached.states.items) self.entry.watch e.fault }
         ensures on { (next : _) → result ≡ Ok (Stepped.On next) → ⊥ }
-        ensures done { (r : ResultView) → result ≡ Ok (Stepped.Done r) → (r.updates ≡ self.entry.watch) × (r.handled ≡ self.entry.handled) × (r.seed ≡ self.entry.seed) × (r.max_events ≡ self.entry.plan.now.max_events) × (r.timeout ≡ self.entry.plan.now.timeout) }
-        ensures shows { (r : ResultView) → result ≡ Ok (Stepped.Done r) → (r.delayed_started ≡ self.entry.world.exercise.delayed_started) × (tally_shown r ≡ tally_of self.entry.world.exercise) × (r.reached ≡ reached.tracker) × (r.states ≡ reached.states.items) }
-        ensures success { (r : ResultView) → result ≡ Ok (Stepped.Done r) → Succeeds (λ c. exit_verdict c) (λ p. property_complaint p) self.entry.plan.now.participants self.entry.plan.now.crashes self.entry.plan.now.exit_condition self.entry.plan.now.required_finalizations self.entry.plan.now.property r }
+        ensures done { (r : ResultView) →
+            result ≡ Ok (Stepped.Done r) →
+            (r.updates ≡ self.entry.watch)
+            × (r.handled ≡ self.entry.handled)
+            × (r.seed ≡ self.entry.seed)
+            × (r.max_events ≡ self.entry.plan.now.max_events)
+            × (r.timeout ≡ self.entry.plan.now.timeout) }
+        ensures shows { (r : ResultView) →
+            result ≡ Ok (Stepped.Done r) →
+            (r.delayed_started ≡ self.entry.world.exercise.delayed_started)
+            × (tally_shown r ≡ tally_of self.entry.world.exercise)
+            × (r.reached ≡ reached.tracker)
+            × (r.states ≡ reached.states.items) }
+        ensures success { (r : ResultView) →
+            result ≡ Ok (Stepped.Done r) →
+            Succeeds (λ c. exit_verdict c) (λ p. property_complaint p) self.entry.plan.now.participants
+            self.entry.plan.now.crashes self.entry.plan.now.exit_condition
+            self.entry.plan.now.required_finalizations self.entry.plan.now.property r }
     {
         let plan = self.plan;
         match check_properties(
@@ -211,7 +373,8 @@ impl<'a, D: EngineDefinition> Simulation<'a, D> {
 
     /// The result of this run.
     fn result(self, reached: Reached) -> PlanResult
-        ensures { ResultOf self.entry.watch self.entry.world.exercise reached self.entry.seed self.entry.handled self.entry.plan.now.max_events self.entry.plan.now.timeout result }
+        ensures { ResultOf self.entry.watch self.entry.world.exercise reached self.entry.seed
+            self.entry.handled self.entry.plan.now.max_events self.entry.plan.now.timeout result }
     {
         let plan = self.plan;
         let Simulation {
@@ -244,7 +407,14 @@ impl<'a, D: EngineDefinition> Simulation<'a, D> {
 
 /// The end of a run by a fault.
 fn end_by<D: EngineDefinition>(plan: &Plan<D>, seed: u64, handled: u64, fault: PlanFault) -> SimEnd
-    ensures { result ≡ SimEnd.Fault (record { fault = fault; seed = seed; handled = handled; max_events = plan.now.max_events; timeout = plan.now.timeout }) }
+    ensures { result
+        ≡ SimEnd.Fault (record {
+          fault = fault;
+          seed = seed;
+          handled = handled;
+          max_events = plan.now.max_events;
+          timeout = plan.now.timeout;
+        }) }
 {
     SimEnd::Fault(Ended {
         fault,
