@@ -50,7 +50,7 @@ pub enum Line {
 /// What a line says, if it is a line of a job. No line has more than five fields: a sixth one is looked for, and
 /// the others are left alone.
 #[tactic(auto, unfolding(crate::specs::Lines::line_of))]
-pub(crate) fn parse_line(line: &[u8]) -> Option<Line>
+pub fn parse_line(line: &[u8]) -> Option<Line>
     ensures { result ≡ line_of line.now }
 {
     if is_skipped(line) {

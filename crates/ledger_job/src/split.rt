@@ -16,7 +16,7 @@ fn without_end(text: &[u8]) -> &[u8]
 
 /// What is to be cut at line feeds, so that its parts are the lines of the text.
 #[tactic(auto, unfolding(crate::specs::Lines::lines_of))]
-pub(crate) fn all_lines(text: &[u8]) -> Option<&[u8]>
+pub fn all_lines(text: &[u8]) -> Option<&[u8]>
     ensures lines { parts_left 10 result ≡ lines_of text.now }
     ensures size { bytes_left result ≤ length text.now + 1 }
 {
@@ -35,7 +35,7 @@ fn place_of(text: &[u8], at: u8) -> Option<usize>
 }
 
 /// The first part of the text, and what is left behind the byte at which it was cut.
-pub(crate) fn cut(text: &[u8], at: u8) -> (&[u8], Option<&[u8]>)
+pub fn cut(text: &[u8], at: u8) -> (&[u8], Option<&[u8]>)
     ensures parts { slice_split (λ b. b == at) text.now ≡ result.0.now ∷ parts_left at result.1 }
     ensures size { bytes_left result.1 < length text.now + 1 }
 {
