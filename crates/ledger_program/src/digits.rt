@@ -17,7 +17,7 @@ fn put_digits(number: u64, out: &mut [u8; 20]) -> usize
 }
 
 /// The digits of a number, in `out`.
-pub(crate) fn decimal_digits(number: u64, out: &mut [u8; 20]) -> &[u8]
+pub fn decimal_digits(number: u64, out: &mut [u8; 20]) -> &[u8]
     ensures { result.now ≡ decimal number }
 {
     let len = put_digits(number, out);

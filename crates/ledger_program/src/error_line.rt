@@ -18,8 +18,9 @@ use ledger_log::Key;
 use ledger_transfers::Rejection;
 use sync_net::ErrorCode;
 
+/// Writes a line of these words and a number.
 #[tactic(auto, unfolding(crate::specs::ErrorLines::number_line))]
-fn number_line<K: Sink>(out: &mut K, words: &str, number: u64) -> Result<(), SinkError>
+pub fn number_line<K: Sink>(out: &mut K, words: &str, number: u64) -> Result<(), SinkError>
     ensures { Writes K.grows (K.written out.old) (K.written out.new) (K.faults out.old) (K.faults out.new)
         (number_line words.now number) result }
 {
@@ -112,8 +113,8 @@ fn server_start<K: Sink>(out: &mut K, code: ErrorCode) -> Result<(), SinkError>
     write_pieces(out, &[b"error server ".as_slice(), number, b" ".as_slice()])
 }
 
-/// The line of a server's refusal, whose text is whatever the peer sent.
-fn server_line<K: Sink>(out: &mut K, code: ErrorCode, message: &str) -> Result<(), SinkError>
+/// Writes the line of a server's refusal, whose text is whatever the peer sent.
+pub fn server_line<K: Sink>(out: &mut K, code: ErrorCode, message: &str) -> Result<(), SinkError>
     ensures { Writes K.grows (K.written out.old) (K.written out.new) (K.faults out.old) (K.faults out.new)
         (server_line code message.now) result }
 {
@@ -128,8 +129,9 @@ fn server_line<K: Sink>(out: &mut K, code: ErrorCode, message: &str) -> Result<(
     write_all(out, b"\n")
 }
 
+/// Writes the line of a later target that isn't taken.
 #[tactic(auto, unfolding(crate::specs::ErrorLines::update_line))]
-fn update_line<K: Sink>(out: &mut K, start: u64, end: u64) -> Result<(), SinkError>
+pub fn update_line<K: Sink>(out: &mut K, start: u64, end: u64) -> Result<(), SinkError>
     ensures { Writes K.grows (K.written out.old) (K.written out.new) (K.faults out.old) (K.faults out.new)
         (update_line start end) result }
 {
@@ -145,8 +147,9 @@ fn digits_line<K: Sink>(out: &mut K, digits: &[u8]) -> Result<(), SinkError>
     write_pieces(out, &[b"error root ".as_slice(), digits, b"\n".as_slice()])
 }
 
+/// Writes the line of a root that isn't that of the synced target.
 #[tactic(auto, unfolding(crate::specs::ErrorLines::root_line))]
-fn root_line<K: Sink>(out: &mut K, found: &Digest) -> Result<(), SinkError>
+pub fn root_line<K: Sink>(out: &mut K, found: &Digest) -> Result<(), SinkError>
     ensures { Writes K.grows (K.written out.old) (K.written out.new) (K.faults out.old) (K.faults out.new)
         (root_line found.now) result }
 {

@@ -67,7 +67,7 @@ fn hex_text(alloc: Global, key: &Key) -> Result<String, AllocError>
 }
 
 /// The 64 digits of 32 bytes, in lower case.
-pub(crate) fn hex_digits(bytes: &[u8; 32]) -> [u8; 64]
+pub fn hex_digits(bytes: &[u8; 32]) -> [u8; 64]
     ensures { result ≡ encode_lower bytes.now }
 {
     let mut digits = [0; 64];

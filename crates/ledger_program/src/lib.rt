@@ -30,10 +30,16 @@ mod report_text;
 mod served;
 mod writing;
 
+pub use digits::decimal_digits;
+pub use error_line::{number_line, root_line, server_line, update_line};
 pub use fault::Fault;
 pub use following::follow;
-pub use outcome::{Outcome, RunFault};
-pub use program::{run, starved};
+pub use key_text::hex_digits;
+pub use outcome::{Outcome, RunFault, status_of};
+pub use program::{run, starved, write_line};
+pub use reading::{ReadFault, read_all};
+pub use served::served_log;
+pub use writing::{write_all, write_pieces};
 
 #[cfg(test)]
 mod tests;

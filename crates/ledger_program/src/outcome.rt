@@ -80,7 +80,7 @@ fn follow_status(fault: &Fault) -> u8
 }
 
 /// The status of a fault.
-pub(crate) fn status_of(fault: &RunFault) -> u8
+pub fn status_of(fault: &RunFault) -> u8
     ensures { result ≡ status_of (Some fault.now) }
 {
     match fault {

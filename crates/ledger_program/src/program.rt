@@ -169,7 +169,7 @@ fn write_report<K: Sink>(
 }
 
 /// Writes the line of a fault, as far as the sink takes it.
-fn write_line<K: Sink>(fault: &RunFault, out: &mut K)
+pub fn write_line<K: Sink>(fault: &RunFault, out: &mut K)
     ensures front { AppendsFront (K.written out.old) (K.written out.new) (line_of fault.now) }
     ensures whole { LineWent K.grows (K.faults out.old) (K.faults out.new)
         (Appends (K.written out.old) (K.written out.new) (line_of fault.now)) }

@@ -64,6 +64,17 @@ pub(crate) fn open_served(
     }
 }
 
+/// The log that a job with these accounts serves.
+pub fn served_log(
+    alloc: Global,
+    accounts: &[Open],
+) -> Result<Log<AnyFamily, Sha256Hasher>, OutOfMemory>
+    ensures { IfOk result (λ log. log ≡ record { front = 0; pinned = []; ops = served accounts.now }) }
+{
+    let ops = served(alloc, accounts)?;
+    open_served(alloc, ops)
+}
+
 /// Want of memory: a served log has no other fault but to be too long, which no memory holds.
 fn wanting(_fault: LogFault) -> OutOfMemory
     requires { IsLongOrMemory _fault }
