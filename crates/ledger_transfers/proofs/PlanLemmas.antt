@@ -3,14 +3,15 @@ use Rattle.std.proofs.Common.{◌≡◌, ℕ, ◌+◌, ◌<◌, ◌≤◌, Bool,
 use Rattle.std.specs.Cmp.{IsEquivalence}
 use Rattle.std.specs.List.{list_any, IsDistinct}
 use Rattle.std.specs.Map.{lookup, keys_of}
-use Rattle.std.proofs.lemmas.List.{take_more, take-append-drop}
+use Rattle.std.proofs.lemmas.List.{append_assoc, take_more, take-append-drop}
 use Rattle.ledger_transfers.specs.declared.change.Change.{Change}
 use Rattle.ledger_transfers.specs.declared.fault.PlanFault.{PlanFault}
 use Rattle.ledger_transfers.specs.declared.fault.PlanFault.TheVariants.{Rejected, OutOfMemory}
 use Rattle.ledger_transfers.specs.declared.fault.Rejection.TheVariants.{Refused, Insufficient, Overflow}
 use Rattle.ledger_transfers.specs.declared.totals.Totals.{Totals}
-use Rattle.ledger_transfers.specs.Touches.{with_change, no_total, total_of, found_total, deb, cred, max_amount, FitsWith, IsPlanOf, IsWithinSums}
+use Rattle.ledger_transfers.specs.Touches.{touches, with_change, no_total, total_of, found_total, deb, cred, max_amount, FitsWith, IsPlanOf, IsWithinSums}
 use Rattle.ledger_transfers.specs.Adds.{AddFails, GatherFails}
+use Rattle.ledger_transfers.proofs.TouchesLemmas.{touches_append}
 use Rattle.ledger_transfers.proofs.TotalLemmas.{total_by, total_by-yes, total_by-no, total_by-none, any_push, sum_part}
 
 or_yes : (a b : Bool) → b ≡ true → (a || (b || false)) ≡ true
@@ -22,6 +23,24 @@ or_no : (a b : Bool) → b ≡ false → (a || (b || false)) ≡ a
 or_no true b h = refl
 or_no false true h = h
 or_no false false h = refl
+
+-- one touch more behind those before
+pub next_touches : {X : Type 0} (before all : List X) (i : ℕ) (t : X) → i < length all → t ≡ get_or all i t → (before ++ take i all) ++ t ∷ [] ≡ before ++ take (i + 1) all
+next_touches before all i t l at =
+    append_assoc before (take i all) (t ∷ []) ∙ ap (λ us. before ++ us) (sym (take_more all i t l ∙ ap (λ x. take i all ++ x ∷ []) (sym at)))
+
+-- the touches of one transfer more, and of all
+module _ {T K E : Type 0} (changes_of : T → List (K × Change E)) (ts : List T) (i : ℕ) (t : T) (here : List (K × Change E)) (l : i < length ts) (at : t ≡ get_or ts i t)
+    (is : here ≡ touches changes_of (t ∷ [])) where
+  pub batch_step : touches changes_of (take i ts) ++ here ≡ touches changes_of (take (i + 1) ts)
+  batch_step =
+      ap (λ us. touches changes_of (take i ts) ++ us) is ∙ sym (touches_append changes_of (take i ts) (t ∷ []))
+      ∙ ap (touches changes_of) (sym (take_more ts i t l ∙ ap (λ x. take i ts ++ x ∷ []) (sym at)))
+
+  pub batch_whole : (touches changes_of (take i ts) ++ here) ++ touches changes_of (drop (i + 1) ts) ≡ touches changes_of ts
+  batch_whole =
+      ap (λ us. us ++ touches changes_of (drop (i + 1) ts)) batch_step ∙ sym (touches_append changes_of (take (i + 1) ts) (drop (i + 1) ts))
+      ∙ ap (touches changes_of) (take-append-drop (i + 1) ts)
 
 module _ {K E : Type 0} (eq : K → K → Bool) (laws : IsEquivalence eq) where
   -- equal keys have one total
@@ -74,23 +93,34 @@ module _ {K E : Type 0} (eq : K → K → Bool) (laws : IsEquivalence eq) where
       by false e = subst (λ (u : Totals E). (u.debits ≤ max_amount) × (u.credits ≤ max_amount)) (sym (total_by-no (λ s. eq k s.0) ts t e)) (w k)
 
   -- a sum that is too great so far is too great in the whole batch
-  pub gather_fails : (all : List (K × Change E)) (i : ℕ) (t : K × Change E) (es : List (K × Totals E)) (fault : PlanFault K) → i < length all → t ≡ get_or all i t
-      → IsPlanOf eq (take i all) es → AddFails (unwrap_or (lookup (eq t.0) es) no_total) t.0 t.1 fault → GatherFails eq all fault
-  gather_fails all i t es fault l at h f = by fault f
+  pub gather_fails : (before : List (K × Change E)) (t : K × Change E) (more : List (K × Change E)) (es : List (K × Totals E)) (fault : PlanFault K)
+      → IsPlanOf eq before es → AddFails (unwrap_or (lookup (eq t.0) es) no_total) t.0 t.1 fault → GatherFails eq ((before ++ t ∷ []) ++ more) fault
+  gather_fails before t more es fault h f = by fault f
     where
-      before : unwrap_or (lookup (eq t.0) es) no_total ≡ total_of eq (take i all) t.0
-      before = ap (λ o. unwrap_or o no_total) (h.each t.0) ∙ found_is (take i all) t.0
+      was : unwrap_or (lookup (eq t.0) es) no_total ≡ total_of eq before t.0
+      was = ap (λ o. unwrap_or o no_total) (h.each t.0) ∙ found_is before t.0
 
-      more : total_of eq (take (i + 1) all) t.0 ≡ with_change (unwrap_or (lookup (eq t.0) es) no_total) t.1
-      more = ap (λ us. total_of eq us t.0) (take_more all i t l ∙ ap (λ x. take i all ++ x ∷ []) (sym at)) ∙ total_by-yes (λ s. eq t.0 s.0) (take i all) t (laws.refl t.0) ∙ ap (λ u. with_change u t.1) (sym before)
+      is : total_of eq (before ++ t ∷ []) t.0 ≡ with_change (unwrap_or (lookup (eq t.0) es) no_total) t.1
+      is = total_by-yes (λ s. eq t.0 s.0) before t (laws.refl t.0) ∙ ap (λ u. with_change u t.1) (sym was)
 
-      whole : take (i + 1) all ++ drop (i + 1) all ≡ all
-      whole = take-append-drop (i + 1) all
-
-      by : (fault : PlanFault K) → AddFails (unwrap_or (lookup (eq t.0) es) no_total) t.0 t.1 fault → GatherFails eq all fault
+      by : (fault : PlanFault K) → AddFails (unwrap_or (lookup (eq t.0) es) no_total) t.0 t.1 fault → GatherFails eq ((before ++ t ∷ []) ++ more) fault
       by (Rejected (Refused k)) f = f
       by (Rejected (Insufficient k)) f =
-          subst (λ q. max_amount < deb eq all q) (sym f.0) (omega (arith, f.1, ap (λ (u : Totals E). u.debits) more, sum_part (λ s. eq t.0 s.0) (λ s. s.1.debit) (take (i + 1) all) (drop (i + 1) all), ap (λ us. deb eq us t.0) whole))
+          subst (λ q. max_amount < deb eq ((before ++ t ∷ []) ++ more) q) (sym f.0) (omega (arith, f.1, ap (λ (u : Totals E). u.debits) is, sum_part (λ s. eq t.0 s.0) (λ s. s.1.debit) (before ++ t ∷ []) more))
       by (Rejected (Overflow k)) f =
-          subst (λ q. max_amount < cred eq all q) (sym f.0) (omega (arith, f.1, ap (λ (u : Totals E). u.credits) more, sum_part (λ s. eq t.0 s.0) (λ s. s.1.credit) (take (i + 1) all) (drop (i + 1) all), ap (λ us. cred eq us t.0) whole))
+          subst (λ q. max_amount < cred eq ((before ++ t ∷ []) ++ more) q) (sym f.0) (omega (arith, f.1, ap (λ (u : Totals E). u.credits) is, sum_part (λ s. eq t.0 s.0) (λ s. s.1.credit) (before ++ t ∷ []) more))
       by OutOfMemory f = f
+
+  -- the same at a place of the touches behind those before
+  pub gather_fails_at : (before all more : List (K × Change E)) (i : ℕ) (t : K × Change E) (es : List (K × Totals E)) (fault : PlanFault K) → i < length all → t ≡ get_or all i t
+      → IsPlanOf eq (before ++ take i all) es → AddFails (unwrap_or (lookup (eq t.0) es) no_total) t.0 t.1 fault → GatherFails eq ((before ++ all) ++ more) fault
+  gather_fails_at before all more i t es fault l at h f = subst (λ us. GatherFails eq us fault) whole (gather_fails (before ++ take i all) t (drop (i + 1) all ++ more) es fault h f)
+    where
+      next : take i all ++ t ∷ [] ≡ take (i + 1) all
+      next = sym (take_more all i t l ∙ ap (λ x. take i all ++ x ∷ []) (sym at))
+
+      whole : ((before ++ take i all) ++ t ∷ []) ++ (drop (i + 1) all ++ more) ≡ (before ++ all) ++ more
+      whole =
+          sym (append_assoc ((before ++ take i all) ++ t ∷ []) (drop (i + 1) all) more)
+          ∙ ap (λ us. us ++ more) (ap (λ us. us ++ drop (i + 1) all) (append_assoc before (take i all) (t ∷ []) ∙ ap (λ us. before ++ us) next)
+          ∙ append_assoc before (take (i + 1) all) (drop (i + 1) all) ∙ ap (λ us. before ++ us) (take-append-drop (i + 1) all))

@@ -1,5 +1,5 @@
 //! A batch, gathered by key and ready to settle.
-ghost use Rattle.std.specs.Prelude.{◌≡◌, [], ◌∷◌, ◌+◌, ◌<◌, ◌≤◌, OnOk, OnErr, IfErr, IfOk, Some, unwrap_or, filter, not};
+ghost use Rattle.std.specs.Prelude.{◌≡◌, [], ◌∷◌, ◌++◌, ◌+◌, ◌<◌, ◌≤◌, OnOk, OnErr, IfErr, IfOk, Some, unwrap_or, filter, not};
 ghost use Rattle.ledger_transfers.specs.Changes.{is_empty_change};
 ghost use Rattle.std.specs.Prelude.{map, length, ◌↔◌, IsTrue};
 ghost use Rattle.indexmap.specs.IndexMap.{get, insert_entry, Updates, IsUnique, index_map_len};
@@ -17,7 +17,7 @@ use crate::seeded::{Seeded, fresh_seed};
 use crate::slot::Slot;
 use crate::slots::{LEAST, parts_for, settle_all};
 use crate::totals::Totals;
-use crate::transfer::{Transfer, touches_of};
+use crate::transfer::{Transfer, touches_into};
 use indexmap::IndexMap;
 use indexmap::map::Entry;
 use ledger_strategy::Strategy;
@@ -71,20 +71,39 @@ fn add_touch<K: Copy + Eq + Hash, E: Copy>(
     }
 }
 
-/// What the touches do to each key.
-fn gather<K: Copy + Eq + Hash, E: Copy>(
+/// Adds touches to what is kept under their keys.
+fn add_touches<K: Copy + Eq + Hash, E: Copy>(
+    alloc: Global,
+    table: &mut IndexMap<K, Totals<E>, Seeded>,
+    all: &[(K, Change<E>)],
+) -> Result<(), PlanFault<K>>
+    ensures plan { OnOk result ((before : _) → IsPlanOf K.eq before table.old.entries → IsPlanOf K.eq (before ++ all.now) table.new.entries) }
+    ensures order { OnOk result ((before : _) → keys_of table.old.entries ≡ touched K.eq [] before → keys_of table.new.entries ≡ touched K.eq [] (before ++ all.now)) }
+    ensures within { OnOk result ((before : _) → IsPlanOf K.eq before table.old.entries → IsWithinSums K.eq before → IsWithinSums K.eq (before ++ all.now)) }
+    ensures fails { IfErr result (λ fault. (before : _) (more : _) → IsPlanOf K.eq before table.old.entries → GatherFails K.eq ((before ++ all.now) ++ more) fault) }
+{
+    for (key, change) in all {
+        add_touch(alloc, table, *key, *change)?;
+    }
+    Ok(())
+}
+
+/// What the touches of a batch do to each key. The touches of one transfer at a time take memory.
+fn gather<T: Transfer<Key = K, Account = A>, K: Copy + Eq + Hash, A: Account>(
     alloc: Global,
     seed: u64,
-    all: &[(K, Change<E>)],
-) -> Result<IndexMap<K, Totals<E>, Seeded>, PlanFault<K>>
-    ensures plan { IfOk result (λ table. IsPlanOf K.eq all.now table.entries) }
-    ensures order { IfOk result (λ table. keys_of table.entries ≡ touched K.eq [] all.now) }
-    ensures within { OnOk result (IsWithinSums K.eq all.now) }
-    ensures fails { IfErr result (GatherFails K.eq all.now) }
+    transfers: &[T],
+) -> Result<IndexMap<K, Totals<A::Effect>, Seeded>, PlanFault<K>>
+    ensures plan { IfOk result (λ table. IsPlanOf K.eq (touches T.changes_of transfers.now) table.entries) }
+    ensures order { IfOk result (λ table. keys_of table.entries ≡ touched K.eq [] (touches T.changes_of transfers.now)) }
+    ensures within { OnOk result (IsWithinSums K.eq (touches T.changes_of transfers.now)) }
+    ensures fails { IfErr result (GatherFails K.eq (touches T.changes_of transfers.now)) }
 {
     let mut table = IndexMap::with_hasher(alloc, Seeded::new(seed));
-    for (key, change) in all {
-        add_touch(alloc, &mut table, *key, *change)?;
+    let mut all = Vec::new(alloc);
+    for transfer in transfers {
+        touches_into(transfer, &mut all)?;
+        add_touches(alloc, &mut table, all.as_slice())?;
     }
     Ok(table)
 }
@@ -120,8 +139,7 @@ impl<K: Copy + Eq + Hash, A: Account> Plan<K, A> {
         ensures within { OnOk result (IsWithinSums K.eq (touches T.changes_of transfers.now)) }
         ensures fails { IfErr result (GatherFails K.eq (touches T.changes_of transfers.now)) }
     {
-        let all = touches_of(alloc, transfers)?;
-        let table = gather(alloc, seed, &all)?;
+        let table = gather(alloc, seed, transfers)?;
         Ok(Plan {
             table,
             transfers: transfers.len(),
