@@ -1,5 +1,5 @@
 -- How the accounts of a list of operations change with one operation more.
-use Rattle.std.proofs.Common.{◌≡◌, ℕ, ◌+◌, ◌<◌, Bool, true, false, cond, List, [], ◌∷◌, ◌++◌, length, get_or, take, Option, None, Some, refl, sym, ap, subst, ◌∙◌, bytes_eq}
+use Rattle.std.proofs.Common.{◌≡◌, ℕ, ◌+◌, ◌<◌, Bool, true, false, cond, List, [], ◌∷◌, ◌++◌, length, get_or, slice_get, unwrap_or, take, Option, None, Some, refl, sym, ap, subst, ◌∙◌, bytes_eq}
 use Rattle.std.specs.Prelude.{IsSome, MatchBool, option_and_then, option_to_list}
 use Rattle.std.specs.List.{last_or, filter_map, cons_option}
 use Rattle.std.specs.BTreeMap.{BTreeMap}
@@ -8,6 +8,7 @@ use Rattle.std.specs.Map.{lookup}
 use Rattle.std.specs.Cmp.Lexicographic.{slice_cmp, texts_ties}
 use Rattle.std.proofs.lemmas.List.{take_more, append-nil}
 use Rattle.std.proofs.lemmas.List.Elements.{filter_map-append}
+use Rattle.std.proofs.lemmas.Option.{slice_get-get_or}
 use Rattle.ledger_log.specs.Any.{any_write}
 use Rattle.ledger_log.specs.View.{written_at, value_or_none, value_at}
 use Rattle.ledger_log.specs.declared.any.AnyOp.{AnyOp}
@@ -97,6 +98,10 @@ module _ {A : Type 0} (same : A → A → Bool) (values : Values A) where
 -- one operation more is read
 pub taken_more : (ops : List AnyOp) (i : ℕ) (op : AnyOp) → i < length ops → op ≡ get_or ops i op → take (i + 1) ops ≡ take i ops ++ op ∷ []
 taken_more ops i op h e = take_more ops i op h ∙ ap (λ z. take i ops ++ z ∷ []) (sym e)
+
+-- the same of an operation that is found
+pub taken_found : (ops : List AnyOp) (i : ℕ) (op : AnyOp) → i < length ops → slice_get ops i ≡ Some op → take (i + 1) ops ≡ take i ops ++ op ∷ []
+taken_found ops i op h e = taken_more ops i op h (ap (λ o. unwrap_or o op) (sym e ∙ slice_get-get_or ops i op h))
 
 -- what is the same as an account is one
 pub some_read : {A : Type 0} (same : A → A → Bool) (a : A) (r : Option A) → SameOutcome same (Some a) r → IsSome r

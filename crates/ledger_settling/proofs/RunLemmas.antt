@@ -1,12 +1,13 @@
 -- One block more.
-use Rattle.std.proofs.Common.{◌≡◌, ℕ, ◌+◌, ◌^◌, ◌<◌, ◌≤◌, List, [], ◌∷◌, ◌++◌, length, take, slice_get, Some, All, sym, ap, subst}
+use Rattle.std.proofs.Common.{◌≡◌, ℕ, ◌+◌, ◌^◌, ◌<◌, ◌≤◌, List, [], ◌∷◌, ◌++◌, length, take, slice_get, Some, All, refl, sym, ap, subst, arith, append_assoc, length-append}
 use Rattle.ledger_log.specs.View.{LogView, log_root, log_size}
 use Rattle.ledger_log.specs.Any.{any_spelling}
 use Rattle.ledger_merkle.specs.Tree.{root, grow, part_root}
 use Rattle.sha2.specs.Sha256.{sha256}
 use Rattle.std.proofs.Common.{map, ◌∙◌}
-use Rattle.std.proofs.lemmas.List.{length-map}
-use Rattle.ledger_settling.specs.Faults.{RunFails}
+use Rattle.std.proofs.lemmas.List.{append-nil, length-map, take_at}
+use Rattle.ledger_settling.specs.Faults.{ReplayFails, RunFails, IsBadValue}
+use Rattle.ledger_transfers.specs.Touches.{touches}
 use Rattle.ledger_settling.specs.Slots.{BodyFails, BlockFails}
 use Rattle.ledger_settling.specs.Reports.{IsWhole}
 use Rattle.ledger_job.specs.declared.block.Block.TheVariants.{Body, Rounds}
@@ -15,7 +16,7 @@ use Rattle.ledger_settling.specs.declared.fault.ReportFault.{ReportFault}
 use Rattle.ledger_settling.specs.declared.fault.ReportFault.TheVariants.{BadLog, BadValue, Rejected, Full, OutOfMemory}
 use Rattle.ledger_log.specs.declared.target.Target.{Target}
 use Rattle.ledger_log.specs.declared.any.AnyOp.{AnyOp}
-use Rattle.ledger_settling.specs.Blocks.{Meaning, Settles, RunsTo, grown, batch_of, RunsBefore, IsRejected, IsFull, IsReadable}
+use Rattle.ledger_settling.specs.Blocks.{Meaning, Settles, RunsTo, appended, grown, batch_of, RunsBefore, IsRejected, IsFull, IsReadable}
 use Rattle.ledger_job.specs.declared.block.Block.{Block}
 use Rattle.ledger_job.specs.declared.block.BlockVerdicts.{BlockVerdicts}
 
@@ -60,6 +61,32 @@ module _ {T A E : Type 0} (m : Meaning T A E) where
         (record { before = runs_before target kept blocks vs log i r f short; block = block; verdict = h.1.0; at = at; settles = h.1.1; long = subst (λ n. 2 ^ 62 < n + length (grown m log.ops (batch_of block h.1.0))) f h.1.2 }),
   )
   run_fails target kept blocks vs log i block OutOfMemory w a r at f short h = tt
+
+module _ {T A E : Type 0} (m : Meaning T A E) where
+  -- what blocks make of operations begins with them
+  pub runs_more : (bs : List (Block T)) (vs : List BlockVerdicts) (ops all : List AnyOp) → RunsTo m ops bs vs all → (more : List AnyOp) × (all ≡ ops ++ more)
+  runs_more [] [] ops all r = ([], r ∙ sym (append-nil ops))
+  runs_more [] (v ∷ vs) ops all r = absurd r
+  runs_more (b ∷ bs) [] ops all r = absurd r
+  runs_more (b ∷ bs) (v ∷ vs) ops all r =
+      let us = appended m.same m.rules m.values ops (touches m.changes_of (batch_of b v)) in
+      let h = runs_more bs vs (grown m ops (batch_of b v)) all r.1 in
+      (us ++ h.0, h.1 ∙ append_assoc ops us h.0)
+
+  pub runs_least : (bs : List (Block T)) (vs : List BlockVerdicts) (ops all : List AnyOp) → RunsTo m ops bs vs all → length ops ≤ length all
+  runs_least bs vs ops all r = let h = runs_more bs vs ops all r in omega (arith, ap length h.1, length-append ops h.0)
+
+  pub runs_first : (bs : List (Block T)) (vs : List BlockVerdicts) (ops all : List AnyOp) → RunsTo m ops bs vs all → take (length ops) all ≡ ops
+  runs_first bs vs ops all r = let h = runs_more bs vs ops all r in ap (take (length ops)) h.1 ∙ take_at ops h.0 (length ops) refl
+
+  -- why the accounts of a part can't be read is why there is no report
+  pub replay_run_fails : (target : Target) (front : ℕ) (ops : List AnyOp) (blocks : List (Block T)) (fault : ReportFault)
+      → front ≡ target.start → IsWhole target.start ops → ReplayFails m.values front ops fault → RunFails m target ops blocks fault
+  replay_run_fails target front ops blocks (BadLog location) f w h = absurd h
+  replay_run_fails target front ops blocks (BadValue location) f w h = (w, subst (λ n. IsBadValue m.values n ops location) f h)
+  replay_run_fails target front ops blocks (Rejected block rejection) f w h = absurd h
+  replay_run_fails target front ops blocks (Full block) f w h = absurd h
+  replay_run_fails target front ops blocks OutOfMemory f w h = tt
 
 -- the root of a log, from its parts
 pub report_root : (log : LogView AnyOp) (start : ℕ) (pinned : List (List ℕ)) → log.front ≡ start → log.pinned ≡ pinned

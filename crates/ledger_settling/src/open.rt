@@ -1,15 +1,15 @@
 //! A part opened as a log, and the report of blocks on it.
-ghost use Rattle.std.specs.Prelude.{◌≡◌, ℕ, IfOk, IfErr, OnOk};
-ghost use Rattle.ledger_settling.specs.Blocks.{meaning};
-ghost use Rattle.ledger_settling.specs.Reports.{Spans, ReportOf, IsWhole, leaves_of};
+ghost use Rattle.std.specs.Prelude.{◌≡◌, ◌≤◌, ℕ, IfOk, IfErr, OnOk, All, length, take};
+ghost use Rattle.ledger_settling.specs.Blocks.{meaning, IsReadable, RunsTo};
+ghost use Rattle.ledger_settling.specs.Reports.{Spans, ReportOf, IsReplay, IsWhole, leaves_of};
 ghost use Rattle.ledger_settling.specs.Faults.{RunFails, OpenFails};
 
 use crate::fault::ReportFault;
-use crate::replay::replay;
-use crate::report::Report;
+use crate::replay::{count_of, op_behind, replay};
+use crate::report::{Accounts, Report};
 use crate::settle::settle_block;
-use ledger_codec::{Digest, List};
-use ledger_job::Block;
+use ledger_codec::{Digest, List, OutOfMemory};
+use ledger_job::{Block, BlockVerdicts};
 use ledger_log::{AnyFamily, AnyOp, Key, Log, LogFault, Target};
 use ledger_managed::AccountValue;
 use ledger_merkle::{Location, MerkleList, Part, Sha256Hasher};
@@ -45,8 +45,63 @@ fn open_log(
     }
 }
 
+/// The first operations of a log.
+fn first_ops(
+    alloc: Global,
+    log: &Log<AnyFamily, Sha256Hasher>,
+    count: u64,
+) -> Result<Vec<AnyOp>, OutOfMemory>
+    requires { count ≤ length log.now.ops }
+    ensures { IfOk result (λ first. first.items ≡ take count log.now.ops) }
+{
+    let mut first = Vec::with_capacity(alloc, count as usize)?;
+    for place in 0..count {
+        let op = op_behind(log, place);
+        first.push(*op)?;
+    }
+    Ok(first)
+}
+
+/// Settles these blocks, one after another, on the log of a part and its accounts.
+fn settle_blocks<
+    R: RandomSource + Threads + Sync,
+    T: Transfer<Key = Key, Account = A>,
+    A: AccountValue,
+    S: Strategy,
+>(
+    rt: &R,
+    alloc: Global,
+    target: &Target,
+    log: &mut Log<AnyFamily, Sha256Hasher>,
+    accounts: &mut Accounts<A>,
+    blocks: &[Block<T>],
+    strategy: &S,
+) -> Result<Vec<BlockVerdicts>, ReportFault>
+    requires front { log.old.front ≡ target.now.start }
+    requires whole { IsWhole target.now.start log.old.ops }
+    requires readable { All (IsReadable A.values) log.old.ops }
+    requires replayed { IsReplay A.eq A.values accounts.old log.old.ops }
+    ensures runs { IfOk result (λ verdicts.
+        RunsTo (meaning T.changes_of A.eq A.rules A.values) log.old.ops blocks.now verdicts.items log.new.ops) }
+    ensures accounts { OnOk result (IsReplay A.eq A.values accounts.new log.new.ops) }
+    ensures front { OnOk result (log.new.front ≡ log.old.front) }
+    ensures nodes { OnOk result (log.new.pinned ≡ log.old.pinned) }
+    ensures fails { IfErr result
+        (RunFails (meaning T.changes_of A.eq A.rules A.values) target.now log.old.ops blocks.now) }
+{
+    let mut verdicts = Vec::new(alloc);
+    for (place, block) in blocks.iter().enumerate() {
+        // Its type says that what was settled so far is within 2^62.
+        let _within = log.size();
+        let verdict = settle_block(rt, alloc, log, accounts, place, block, strategy)?;
+        verdicts.push(verdict)?;
+    }
+    Ok(verdicts)
+}
+
 /// The report of these blocks over the log of a part that spans the target, has its root, and ends in a
-/// commit whose floor lies within it. `kept` and `pinned` are the log's own operations and nodes.
+/// commit whose floor lies within it. `pinned` are the log's own nodes. The report's operations are copied from the log
+/// once all blocks are settled.
 fn settle_log<
     R: RandomSource + Threads + Sync,
     T: Transfer<Key = Key, Account = A>,
@@ -57,28 +112,25 @@ fn settle_log<
     alloc: Global,
     target: &Target,
     pinned: Vec<Digest>,
-    kept: Vec<AnyOp>,
-    log: Log<AnyFamily, Sha256Hasher>,
+    opened: Log<AnyFamily, Sha256Hasher>,
     blocks: &[Block<T>],
     strategy: &S,
 ) -> Result<Report<A>, ReportFault>
-    requires log { log ≡ record { front = target.now.start; pinned = pinned.items; ops = kept.items } }
-    requires spans { Spans target.now pinned.items kept.items }
-    requires whole { IsWhole target.now.start kept.items }
+    requires front { opened.front ≡ target.now.start }
+    requires nodes { opened.pinned ≡ pinned.items }
+    requires spans { Spans target.now pinned.items opened.ops }
+    requires whole { IsWhole target.now.start opened.ops }
     ensures report { IfOk result (ReportOf (meaning T.changes_of A.eq A.rules A.values) target.now blocks.now) }
-    ensures kept { IfOk result (λ r. r.kept ≡ kept.items) }
+    ensures kept { IfOk result (λ r. r.kept ≡ opened.ops) }
     ensures pinned { IfOk result (λ r. r.pinned ≡ pinned.items) }
-    ensures fails { IfErr result (RunFails (meaning T.changes_of A.eq A.rules A.values) target.now kept.items blocks.now) }
+    ensures fails { IfErr result
+        (RunFails (meaning T.changes_of A.eq A.rules A.values) target.now opened.ops blocks.now) }
 {
-    let mut log = log;
-    let mut accounts = replay(alloc, target.start, &kept)?;
-    let mut verdicts = Vec::new(alloc);
-    for (place, block) in blocks.iter().enumerate() {
-        // Its type says that what was settled so far is within 2^62.
-        let _within = log.size();
-        let verdict = settle_block(rt, alloc, &mut log, &mut accounts, place, block, strategy)?;
-        verdicts.push(verdict)?;
-    }
+    let mut log = opened;
+    let count = count_of(&log);
+    let mut accounts = replay(alloc, &log)?;
+    let verdicts = settle_blocks(rt, alloc, target, &mut log, &mut accounts, blocks, strategy)?;
+    let kept = first_ops(alloc, &log, count)?;
     let root = log.root();
     Ok(Report {
         target: *target,
@@ -119,7 +171,6 @@ pub fn report_of<
     ensures fails { IfErr result (RunFails (meaning T.changes_of A.eq A.rules A.values) target.now part.ops blocks.now) }
 {
     let pinned = part.pinned.into_vec();
-    let kept = Vec::from_slice(alloc, part.ops.as_slice())?;
     let log = open_log(alloc, target, list, part.ops.into_vec())?;
-    settle_log(rt, alloc, target, pinned, kept, log, blocks, strategy)
+    settle_log(rt, alloc, target, pinned, log, blocks, strategy)
 }

@@ -27,12 +27,13 @@ use crate::append::append_slots;
 use crate::fault::ReportFault;
 use crate::report::Accounts;
 use crate::slots::{reads_of, touched_keys};
+use indexmap::IndexSet;
 use ledger_codec::{List, OutOfMemory};
 use ledger_log::{AnyFamily, Key, Log};
 use ledger_managed::AccountValue;
 use ledger_merkle::Sha256Hasher;
 use ledger_strategy::Strategy;
-use ledger_transfers::{Account, Change, Selection, Slot, Transfer};
+use ledger_transfers::{Account, Change, Seeded, Selection, Slot, Transfer};
 use std::alloc::Global;
 use std::random::RandomSource;
 use std::thread::Threads;
@@ -227,6 +228,20 @@ fn drop_empty<E: Copy>(changes: &mut Vec<(Key, Change<E>)>)
     changes.retain(|change| !change.1.is_empty());
 }
 
+/// The keys of what was taken, each at its first touch. The changes are let go.
+fn taken_keys<R: RandomSource, E: Copy>(
+    rt: &R,
+    alloc: Global,
+    mut changes: Vec<(Key, Change<E>)>,
+) -> Result<IndexSet<Key, Seeded>, OutOfMemory>
+    ensures { IfOk result (λ set.
+        set.keys ≡ touched_first (filter (λ t. not (is_empty_change t.1)) changes.items)) }
+{
+    drop_empty(&mut changes);
+    let set = touched_keys(rt, alloc, &changes)?;
+    Ok(set)
+}
+
 /// Chooses the candidates of a block of rounds and settles what was taken on the log.
 pub(crate) fn settle_rounds<
     R: RandomSource + Threads + Sync,
@@ -251,8 +266,7 @@ pub(crate) fn settle_rounds<
     let mut selection = Selection::new(rt, alloc);
     let mut changes = Vec::new(alloc);
     let verdicts = choose_rounds(alloc, &mut selection, accounts, &mut changes, rounds)?;
-    drop_empty(&mut changes);
-    let order = touched_keys(rt, alloc, &changes)?;
+    let order = taken_keys(rt, alloc, changes)?;
     let keys = order.as_slice();
     let slots = selected_slots(rt, alloc, selection, accounts, keys, strategy)?;
     match append_slots(alloc, log, accounts, place, keys, slots) {

@@ -47,8 +47,8 @@ fn settle_body<
         }
         Err(PlanFault::OutOfMemory) => return Err(ReportFault::OutOfMemory),
     };
-    let Planned { plan, slots } = planned;
-    append_slots(alloc, log, accounts, block, plan.keys(), slots)
+    let Planned { keys, slots } = planned;
+    append_slots(alloc, log, accounts, block, keys.as_slice(), slots)
 }
 
 /// Settles a block, at this place of the blocks, on the log.

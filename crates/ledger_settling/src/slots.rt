@@ -20,10 +20,10 @@ use std::alloc::Global;
 use std::random::RandomSource;
 use std::thread::Threads;
 
-/// A body's plan, with one slot for each of its keys.
+/// The keys of a body, with one slot for each of them.
 #[derive(Drop)]
 pub(crate) struct Planned<A: AccountValue> {
-    pub plan: Plan<Key, A>,
+    pub keys: Vec<Key>,
     pub slots: Vec<Slot<A>>,
 }
 
@@ -73,7 +73,14 @@ fn read_one<A: AccountValue>(
     }
 }
 
-/// The slots of a body, in the order of first touches.
+/// A copy of these keys.
+fn copied(alloc: Global, keys: &[Key]) -> Result<Vec<Key>, OutOfMemory>
+    ensures { IfOk result (λ copy. copy.items ≡ keys.now) }
+{
+    Ok(Vec::from_slice(alloc, keys)?)
+}
+
+/// The slots of a body, in the order of first touches. What its plan holds beside the keys is let go.
 pub(crate) fn body_slots<
     R: RandomSource + Threads + Sync,
     T: Transfer<Key = Key, Account = A>,
@@ -86,14 +93,15 @@ pub(crate) fn body_slots<
     batch: &[T],
     strategy: &S,
 ) -> Result<Planned<A>, PlanFault<Key>>
-    ensures order { IfOk result (λ p. keys_of p.plan ≡ touched_first (touches T.changes_of batch.now)) }
-    ensures slots { IfOk result (λ p. AreSettled bytes_eq A.eq A.rules (keys_of p.plan) (opening_of A.rules accounts.now) (touches T.changes_of batch.now) p.slots.items) }
+    ensures order { IfOk result (λ p. p.keys.items ≡ touched_first (touches T.changes_of batch.now)) }
+    ensures slots { IfOk result (λ p. AreSettled bytes_eq A.eq A.rules p.keys.items (opening_of A.rules accounts.now) (touches T.changes_of batch.now) p.slots.items) }
     ensures fails { IfErr result (SlotsFail A.rules (opening_of A.rules accounts.now) (touches T.changes_of batch.now)) }
 {
     let plan = Plan::new(rt, alloc, batch, strategy)?;
     let reads = reads_of(alloc, accounts, plan.keys())?;
     let slots = plan.settle(rt, alloc, &reads, strategy)?;
-    Ok(Planned { plan, slots })
+    let keys = copied(alloc, plan.keys())?;
+    Ok(Planned { keys, slots })
 }
 
 /// Writes one slot: an operation where the account changes, and the account.

@@ -3,8 +3,8 @@ use Rattle.ledger_settling.specs.Blocks.{IsReadable}
 use Rattle.ledger_settling.specs.Reports.{IsReplay}
 use Rattle.ledger_settling.proofs.replay.replay.Given as goal
 
-abbrev pub invariant-loop-i : goal.invariant-loop-i
-invariant-loop-i g l = record {
-  replay : IsReplay g.A.PartialEq.eq g.A.AccountValue.values l.accounts (take l.i l.ops);
-  readable : All (IsReadable g.A.AccountValue.values) (take l.i l.ops);
+abbrev pub invariant-loop-place : goal.invariant-loop-place
+invariant-loop-place g l = record {
+  replay : IsReplay g.A.PartialEq.eq g.A.AccountValue.values l.accounts (take l.place l.log.ops);
+  readable : All (IsReadable g.A.AccountValue.values) (take l.place l.log.ops);
 }

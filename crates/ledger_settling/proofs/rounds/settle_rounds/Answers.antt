@@ -44,16 +44,15 @@ returns-in-Ok-clause-grown g c =
     let vs = c.in_ok-verdicts.verdicts.items in
     let batch = taken (joined rounds) (joined vs) in
     let chose = c.in_ok-verdicts.ensures.chosen [] c.new-selection.ensures.stands in
-    let touched : c.deref.result.now ≡ touches f batch = c.deref.ensures.value ∙ c.drop_empty.ensures
-    ∙ ap (filter (λ (t : List ℕ × Change g.row.A-Effect.Denot). not (is_empty_change t.1))) (c.in_ok-verdicts.ensures.changes ∙ ap (λ us. us ++ flat_map f batch) c.new-changes.ensures.items) in
-    let keys : c.as_slice-keys.result.now ≡ touched_first (touches f batch) = c.as_slice-keys.ensures.keys ∙ c.in_ok-order.ensures ∙ ap touched_first touched in
+    let keys : c.as_slice-keys.result.now ≡ touched_first (touches f batch) = c.as_slice-keys.ensures.keys ∙ c.in_ok-order.ensures
+    ∙ ap (λ us. touched_first (filter (λ (t : List ℕ × Change g.row.A-Effect.Denot). not (is_empty_change t.1)) us)) (c.in_ok-verdicts.ensures.changes ∙ ap (λ us. us ++ flat_map f batch) c.new-changes.ensures.items) in
     let made = slots_make same eq.laws account laws.laws g.A.AccountValue.sound values value.value_laws c.args.accounts.now log.ops c.requires (touches f batch) c.as_slice-keys.result.now c.in_ok-slots.slots.items keys
     (c.in_ok-slots.ensures (touches f batch) chose.1 keys) in
     c.in-Ok.ensures.grown
     ∙ ap (λ all. record { front = log.front; pinned = log.pinned; ops = all }) (made ∙ ap (λ ws. with_touches same account values log.ops (touches f (taken (joined rounds) (joined ws)))) (sym c.from_vec.ensures))
 
-pub returns-clause-fails : goal.returns-clause-fails
-returns-clause-fails g c =
+pub returns-in-Err-clause-fails : goal.returns-in-Err-clause-fails
+returns-in-Err-clause-fails g c =
     let same = g.A.PartialEq.eq in
     let account = g.A.Account.rules in
     let values = g.A.AccountValue.values in
@@ -66,9 +65,8 @@ returns-clause-fails g c =
     let vs = c.in_ok-verdicts.verdicts.items in
     let batch = taken (joined rounds) (joined vs) in
     let chose = c.in_ok-verdicts.ensures.chosen [] c.new-selection.ensures.stands in
-    let touched : c.deref.result.now ≡ touches f batch = c.deref.ensures.value ∙ c.drop_empty.ensures
-    ∙ ap (filter (λ (t : List ℕ × Change g.row.A-Effect.Denot). not (is_empty_change t.1))) (c.in_ok-verdicts.ensures.changes ∙ ap (λ us. us ++ flat_map f batch) c.new-changes.ensures.items) in
-    let keys : c.as_slice-keys.result.now ≡ touched_first (touches f batch) = c.as_slice-keys.ensures.keys ∙ c.in_ok-order.ensures ∙ ap touched_first touched in
+    let keys : c.as_slice-keys.result.now ≡ touched_first (touches f batch) = c.as_slice-keys.ensures.keys ∙ c.in_ok-order.ensures
+    ∙ ap (λ us. touched_first (filter (λ (t : List ℕ × Change g.row.A-Effect.Denot). not (is_empty_change t.1)) us)) (c.in_ok-verdicts.ensures.changes ∙ ap (λ us. us ++ flat_map f batch) c.new-changes.ensures.items) in
     let made = slots_make same eq.laws account laws.laws g.A.AccountValue.sound values value.value_laws c.args.accounts.now log.ops c.requires (touches f batch) c.as_slice-keys.result.now c.in_ok-slots.slots.items keys
     (c.in_ok-slots.ensures (touches f batch) chose.1 keys) in
     let m = meaning f same account values in

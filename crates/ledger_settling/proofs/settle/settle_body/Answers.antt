@@ -1,5 +1,4 @@
 use Rattle.std.proofs.Common.{◌≡◌, ◌∙◌, ap, sym, subst, refl}
-use Rattle.std.specs.Map.{keys_of}
 use Rattle.ledger_transfers.specs.Touches.{touches}
 use Rattle.ledger_settling.specs.Blocks.{meaning, IsOffence}
 use Rattle.std.specs.Prelude.{IfErr, OnOk}
@@ -26,7 +25,7 @@ returns-clause-settled g c =
     let laws = g.met.A.Account g.world.𝓛 g.world.𝓜 g.world.𝓡 ((λ s x. x), (λ x. x), (λ x. x), λ x. x) in
     let ts = touches g.T.Transfer.changes_of c.args.batch.now in
     on_ok c.append_slots.result _
-    (settled_by_slots g.A.PartialEq.eq eq.laws g.A.Account.rules laws.laws g.A.AccountValue.values c.args.accounts.now c.args.log.now.ops c.requires ts (keys_of c.in-Ok.planned.plan) c.in-Ok.planned.slots.items c.in-Ok.ensures.order c.in-Ok.ensures.slots)
+    (settled_by_slots g.A.PartialEq.eq eq.laws g.A.Account.rules laws.laws g.A.AccountValue.values c.args.accounts.now c.args.log.now.ops c.requires ts c.in-Ok.planned.keys.items c.in-Ok.planned.slots.items c.in-Ok.ensures.order c.in-Ok.ensures.slots)
 
 pub returns-clause-grown : goal.returns-clause-grown
 returns-clause-grown g c =
@@ -35,8 +34,8 @@ returns-clause-grown g c =
     let value = g.met.A.AccountValue g.world.𝓛 g.world.𝓜 g.world.𝓡 ((λ s x. x), (λ x. x), (λ x. x), λ x. x) in
     let log = c.args.log.now in
     let ts = touches g.T.Transfer.changes_of c.args.batch.now in
-    let made = ap (λ ks. with_slots g.A.AccountValue.values log.ops ks c.in-Ok.planned.slots.items) c.keys.ensures
-    ∙ slots_make g.A.PartialEq.eq eq.laws g.A.Account.rules laws.laws g.A.AccountValue.sound g.A.AccountValue.values value.value_laws c.args.accounts.now log.ops c.requires ts (keys_of c.in-Ok.planned.plan) c.in-Ok.planned.slots.items c.in-Ok.ensures.order c.in-Ok.ensures.slots in
+    let made = ap (λ ks. with_slots g.A.AccountValue.values log.ops ks c.in-Ok.planned.slots.items) c.as_slice.ensures.value
+    ∙ slots_make g.A.PartialEq.eq eq.laws g.A.Account.rules laws.laws g.A.AccountValue.sound g.A.AccountValue.values value.value_laws c.args.accounts.now log.ops c.requires ts c.in-Ok.planned.keys.items c.in-Ok.planned.slots.items c.in-Ok.ensures.order c.in-Ok.ensures.slots in
     subst (λ all. OnOk c.append_slots.result (c.append_slots.new.log ≡ record { front = log.front; pinned = log.pinned; ops = all })) made c.append_slots.ensures.grown
 
 pub returns-clause-fails : goal.returns-clause-fails
@@ -46,8 +45,8 @@ returns-clause-fails g c =
     let value = g.met.A.AccountValue g.world.𝓛 g.world.𝓜 g.world.𝓡 ((λ s x. x), (λ x. x), (λ x. x), λ x. x) in
     let log = c.args.log.now in
     let ts = touches g.T.Transfer.changes_of c.args.batch.now in
-    let made = ap (λ ks. with_slots g.A.AccountValue.values log.ops ks c.in-Ok.planned.slots.items) c.keys.ensures
-    ∙ slots_make g.A.PartialEq.eq eq.laws g.A.Account.rules laws.laws g.A.AccountValue.sound g.A.AccountValue.values value.value_laws c.args.accounts.now log.ops c.requires ts (keys_of c.in-Ok.planned.plan) c.in-Ok.planned.slots.items c.in-Ok.ensures.order c.in-Ok.ensures.slots in
+    let made = ap (λ ks. with_slots g.A.AccountValue.values log.ops ks c.in-Ok.planned.slots.items) c.as_slice.ensures.value
+    ∙ slots_make g.A.PartialEq.eq eq.laws g.A.Account.rules laws.laws g.A.AccountValue.sound g.A.AccountValue.values value.value_laws c.args.accounts.now log.ops c.requires ts c.in-Ok.planned.keys.items c.in-Ok.planned.slots.items c.in-Ok.ensures.order c.in-Ok.ensures.slots in
     body_fails (meaning g.T.Transfer.changes_of g.A.PartialEq.eq g.A.Account.rules g.A.AccountValue.values) log c.args.block c.args.batch.now c.append_slots.result
-    (settled_by_slots g.A.PartialEq.eq eq.laws g.A.Account.rules laws.laws g.A.AccountValue.values c.args.accounts.now log.ops c.requires ts (keys_of c.in-Ok.planned.plan) c.in-Ok.planned.slots.items c.in-Ok.ensures.order c.in-Ok.ensures.slots)
+    (settled_by_slots g.A.PartialEq.eq eq.laws g.A.Account.rules laws.laws g.A.AccountValue.values c.args.accounts.now log.ops c.requires ts c.in-Ok.planned.keys.items c.in-Ok.planned.slots.items c.in-Ok.ensures.order c.in-Ok.ensures.slots)
     (subst (λ all. IfErr c.append_slots.result (AppendFails log c.args.block all)) made c.append_slots.ensures.fails)
