@@ -3,7 +3,8 @@
 
     python3 bench/hostile.py [--program PROGRAM] [--payments N] [--bytes N] [--against PROGRAM] [--times N]
 
-Runs crates/ledger_main/out/ledger_main, which `rt ci` leaves there, or another PROGRAM. Two kinds of jobs:
+Runs crates/ledger_main/out/ledger_main, which `rt ci` leaves there, or another PROGRAM, as bin/ledger runs it. GNU
+time tells its time and its peak of resident memory. Two kinds of jobs:
 
 - keys chosen so that they collide in a table that hashes by std's fast hasher with its fixed seed: their bytes 8 to
   15 are its multiplier, which brings every one of them to one state. A body and rounds of payments among them are
@@ -21,6 +22,8 @@ import tempfile
 
 PROGRAM = pathlib.Path(__file__).parent.parent / "crates" / "ledger_main" / "out" / "ledger_main"
 MULTIPLIER = 0x9E3779B97F4A7C15
+# As bin/ledger sets it.
+SETTINGS = {"MALLOC_MMAP_THRESHOLD_": "131072"}
 
 
 def chosen_key(number):
@@ -42,21 +45,24 @@ def opens(count):
     return "".join(f"open k{i} 1000000 0\n" for i in range(count)).encode()
 
 
-def paid(count):
-    lines = [f"open k{i} 1000000 0\n" for i in range(count)] + ["body\n"]
+def paid(count, kind):
+    """As many accounts as payments between them, in a block of this kind."""
+    lines = [f"open k{i} 1000000 0\n" for i in range(count)] + [f"{kind}\n"] + ["round\n"] * (kind == "rounds")
     lines += [f"pay k{i} k{(i * 7 + 1) % count} 1 0\n" for i in range(count)]
     return "".join(lines).encode()
 
 
 def run(program, job):
-    """Seconds of user time and the peak of resident memory in bytes."""
+    """Seconds of user time and the peak of resident memory in bytes, as GNU time tells them. A child of this process
+    would be told to have held at its peak what this process held when it started the child."""
     with tempfile.TemporaryFile() as file:
         file.write(job)
         file.seek(0)
-        child = subprocess.Popen([program, "local"], stdin=file, stdout=subprocess.DEVNULL)
-        _, status, spent = os.wait4(child.pid, 0)
-        child.returncode = os.waitstatus_to_exitcode(status)
-    return spent.ru_utime, spent.ru_maxrss * 1024
+        words = ["/usr/bin/time", "-f", "%U %M", program, "local"]
+        settings = {**os.environ, **SETTINGS}
+        done = subprocess.run(words, stdin=file, stdout=subprocess.DEVNULL, stderr=subprocess.PIPE, env=settings)
+    seconds, kilobytes = done.stderr.splitlines()[-1].split()
+    return float(seconds), int(kilobytes) * 1024
 
 
 def timed(program, job, times):
@@ -85,7 +91,12 @@ def show_texts(given):
             text += b"\n"
         peak = run(given.program, text)[1] - least
         print(f"{len(text)} bytes of {name}: {peak / len(text):.1f} bytes a byte")
-    for name, job in (("1000000 open lines", opens(1_000_000)), ("100000 open lines and payments", paid(100_000))):
+    jobs = {
+        "1000000 open lines": opens(1_000_000),
+        "100000 open lines and payments": paid(100_000, "body"),
+        "100000 open lines and candidates": paid(100_000, "rounds"),
+    }
+    for name, job in jobs.items():
         peak = run(given.program, job)[1]
         line = f"{name}: {peak >> 20} MB, {(peak - least) / len(job):.1f} bytes a byte"
         if given.against:
