@@ -1,0 +1,4 @@
+pub mod Adding
+pub mod Fetches
+pub mod States
+pub mod Trees
