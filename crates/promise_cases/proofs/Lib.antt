@@ -1,4 +1,5 @@
 pub mod Adding
 pub mod Fetches
 pub mod States
+pub mod Trackers
 pub mod Trees

@@ -4,4 +4,5 @@
 mod bytes;
 mod compact;
 mod links;
+mod trackers;
 mod trees;
