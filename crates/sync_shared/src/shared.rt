@@ -1,6 +1,7 @@
 //! A log that passes share.
 ghost use Rattle.std.specs.Prelude.{◌≡◌, ◌<◌, ◌≤◌, ℕ, false, IfOk, map};
 ghost use Rattle.std.specs.List.{All, range_with_len};
+ghost use Rattle.sync_net.specs.Messages.{MessageFits};
 ghost use Rattle.turn_lock.specs.Passes.{fresh, Meets, Present};
 ghost use Rattle.sync_shared.specs.Replies.{Belongs, Served, Appends, Closes};
 ghost use Rattle.sync_shared.specs.Turns.{result_of};
@@ -78,7 +79,8 @@ impl<F: Family> SharedLog<F> {
         Ok((SharedLog { lock }, passes))
     }
 
-    /// The reply to a message, as a server makes it of the log at the call's point of the history.
+    /// The reply to a message, as a server makes it of the log at the call's point of the history. It is within the
+    /// limits of a message.
     pub fn serve<R: Wait>(
         &self,
         rt: &R,
@@ -88,6 +90,7 @@ impl<F: Family> SharedLog<F> {
     ) -> Result<Message<F::Op>, ShareRefusal>
         requires { Belongs self.now.from pass.old }
         ensures answer { Served F.floor_of self.now.opening F.Op.spelling pass.old message pass.new result }
+        ensures limits { IfOk result (λ reply. MessageFits (λ op. Unit {0}) reply) }
     {
         if pass.is_spent() {
             return Err(ShareRefusal::PassSpent);

@@ -3,6 +3,7 @@ ghost use Rattle.std.specs.Prelude.{◌≡◌, ◌<◌, ◌∷◌, [], ◌++◌,
 ghost use Rattle.sha2.specs.Sha256.{sha256};
 ghost use Rattle.ledger_log.specs.View.{log_floor, log_size};
 ghost use Rattle.sync_net.specs.Core.{core};
+ghost use Rattle.sync_net.specs.Messages.{MessageFits};
 ghost use Rattle.turn_lock.specs.History.{entry};
 ghost use Rattle.sync_shared.specs.declared.event.Event.TheVariants.{Request};
 ghost use Rattle.sync_shared.specs.declared.event.EventOutcome.TheVariants.{Replied};
@@ -26,7 +27,8 @@ fn reply_to<F: Family>(
     log: &Log<F, Sha256Hasher>,
     message: &Message<F::Op>,
 ) -> Result<Message<F::Op>, OutOfMemory>
-    ensures { IfOk result (λ reply. reply ≡ core sha256 F.Op.spelling (log_floor F.floor_of log.now) log.now message.now) }
+    ensures reply { IfOk result (λ reply. reply ≡ core sha256 F.Op.spelling (log_floor F.floor_of log.now) log.now message.now) }
+    ensures limits { IfOk result (λ reply. MessageFits (λ op. Unit {0}) reply) }
 {
     let asked = match message {
         Message::GetOperationsRequest(request) => Message::GetOperationsRequest(*request),
@@ -47,6 +49,7 @@ pub(crate) fn serve_held<F: Family>(
 ) -> Result<Message<F::Op>, OutOfMemory>
     ensures log { held.new.value ≡ held.old.value }
     ensures reply { IfOk result (λ reply. reply ≡ core sha256 F.Op.spelling (log_floor F.floor_of held.old.value) held.old.value message) }
+    ensures limits { IfOk result (λ reply. MessageFits (λ op. Unit {0}) reply) }
     ensures entry { IfOk result (λ reply. held.new.history.items ≡ held.old.history.items ++ entry caller (Request message) (Replied (log_size held.old.value)) ∷ []) }
     ensures none { OnErr result (held.new.history.items ≡ held.old.history.items) }
 {
