@@ -1,0 +1,4 @@
+pub mod Adding
+pub mod Coming
+pub mod Chaining
+pub mod Answering
