@@ -1,0 +1,4 @@
+pub mod Forms
+pub mod Accounts
+pub mod Tests
+pub mod Laws
