@@ -132,6 +132,19 @@ def check_crates(checks):
             checks.hold(holds, f"docs/PROMISES.md: {crate} has no {code}")
 
 
+def check_refusals(checks):
+    """What docs/REFUSALS.md names in a section stands in one of the crates that its heading names."""
+    files = [path for kind in ("*.rt", "*.antt") for path in (TOP / "crates").rglob(kind) if "/out/" not in str(path)]
+    for section in (TOP / "docs/REFUSALS.md").read_text().split("\n## ")[1:]:
+        heading, _, text = section.partition("\n")
+        crates = re.findall(r"[a-z]+_[a-z]+", heading)
+        own = "".join(path.read_text() for path in files if any(f"/{crate}/" in str(path) for crate in crates))
+        checks.hold(crates, f"docs/REFUSALS.md: no crate in: {heading}")
+        for code in inline(text):
+            holds = not re.fullmatch(r"[A-Za-z_0-9]+(?:::\w+)?", code) or re.search(rf"\b{code.split('::')[-1]}\b", own)
+            checks.hold(holds, f"docs/REFUSALS.md: {heading} has no {code}")
+
+
 def check_example(checks):
     """The first example stands in README.md as it is, and prints what is printed there."""
     block = next(block for block in fences((TOP / "README.md").read_text(), "text") if block.startswith("$ cat"))
@@ -160,7 +173,8 @@ def check_help(checks):
 
 def main():
     checks = Checks()
-    for check in (check_commands, check_promises, check_paths, check_crates, check_example, check_node, check_help):
+    parts = (check_commands, check_promises, check_paths, check_crates, check_refusals, check_example, check_node, check_help)
+    for check in parts:
         check(checks)
     print(f"{checks.passed} passed, {checks.failed} failed")
     return 1 if checks.failed else 0
