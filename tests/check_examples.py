@@ -14,6 +14,10 @@ sys.path.insert(0, str(pathlib.Path(__file__).parent))
 from reference import local  # noqa: E402
 
 ROOT = pathlib.Path(__file__).parent.parent
+FORMS = [["local"]] + [["local", "--workers", n] for n in ("1", "3", "64")]
+OTHERS = [[], ["Local"], ["local", "local"], ["--help"], [""], ["local", "--workers"], ["local", "--workers", "0"],
+          ["local", "--workers", "65"], ["local", "--workers", "03"], ["local", "--worker", "3"], ["--workers", "3", "local"],
+          ["local", "--workers", "2", "--workers", "2"], ["follow", "--workers", "2"], ["follow", "x", "--workers", "0"]]
 NAMES = ["a", "b", "c", "d-1", "e_2", "f" * 32, "0x" + "1f" * 32, "0x" + "00" * 32]
 
 
@@ -50,13 +54,13 @@ def made_job(seed):
 
 def answer(words, job):
     """The texts of which one is printed, and the status."""
-    return local(job) if words == ["local"] else (["error usage\n"], 2)
+    return local(job) if words in FORMS else (["error usage\n"], 2)
 
 
 def main(program):
     cases = [(p.name, ["local"], p.read_bytes()) for p in sorted((ROOT / "examples").glob("*.job"))]
-    cases += [(f"seed {seed}", ["local"], made_job(seed)) for seed in range(300)]
-    cases += [(f"words {words}", words, b"") for words in ([], ["Local"], ["local", "local"], ["--help"], [""])]
+    cases += [(f"seed {seed}", FORMS[seed % 5 % 4], made_job(seed)) for seed in range(300)]
+    cases += [(f"words {words}", words, b"") for words in OTHERS]
     failed, started = 0, time.monotonic()
     for name, words, job in cases:
         run = subprocess.run([program, *words], input=job, capture_output=True, timeout=60)

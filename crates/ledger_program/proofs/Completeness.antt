@@ -40,7 +40,8 @@ two_changes p = omega arith
 ok_is : (i j : Job) → (r : Result Job ℕ) → r ≡ Ok i → r ≡ Ok j → i ≡ j
 ok_is i j r e f = cc
 
-module _ (text : List ℕ) (job : Job) (is_job : IsJob Local text job) (settling : Settling job) where
+-- a job whose blocks settle and have room
+module _ (job : Job) (room : (0 + length (served job.opens)) + room_for job.blocks ≤ 2 ^ 62) (settling : Settling job) where
   -- no block of the job has a fault
   no_fault : (target : Target) (cause : ReportFault) → IsServed job target → RunFails payments target (served job.opens) job.blocks cause → IsOfBlock (fault_of cause) → ⊥
   no_fault target (NoLog location) is f b = b
@@ -49,16 +50,22 @@ module _ (text : List ℕ) (job : Job) (is_job : IsJob Local text job) (settling
       never_rejected payments sequenced_value_laws job.blocks settling.verdicts (served job.opens) settling.all (served_written job.opens) settling.runs
       block f.2.before.verdicts f.2.before.all f.2.batch rejection f.2.before.runs f.2.at f.2.offence
   no_fault target (LogFull block) is f b =
-      let few = job_short Local text job is_job.is in
-      never_full payments two_changes 0 (served job.opens) job.blocks block (room (length (served job.opens)) (room_for job.blocks) (length text) few is_job.within)
-      (subst (λ n. IsFull payments n (served job.opens) job.blocks block) is.start f.2)
+      never_full payments two_changes 0 (served job.opens) job.blocks block room (subst (λ n. IsFull payments n (served job.opens) job.blocks block) is.start f.2)
+  no_fault target NoMemory is f b = b
+
+  pub roomy_unfollowed : (fault : Fault) → IsOfBlock fault → FailsJob job fault → ⊥
+  roomy_unfollowed fault b fails = no_fault fails.target fails.cause fails.is_served fails.fails (subst IsOfBlock fails.fault_is b)
+
+module _ (text : List ℕ) (job : Job) (is_job : IsJob Local text job) (settling : Settling job) where
+  -- a job that was read has room
+  has_room : (0 + length (served job.opens)) + room_for job.blocks ≤ 2 ^ 62
+  has_room = room (length (served job.opens)) (room_for job.blocks) (length text) (job_short Local text job is_job.is) is_job.within
     where
       room : (n r t : ℕ) → n + r ≤ 3 * t + 5 → t ≤ max_job → (0 + n) + r ≤ 2 ^ 62
       room n r t p q = omega (arith, p, q)
-  no_fault target NoMemory is f b = b
 
   settling_unfollowed : (fault : Fault) → IsOfBlock fault → FailsJob job fault → ⊥
-  settling_unfollowed fault b fails = no_fault fails.target fails.cause fails.is_served fails.fails (subst IsOfBlock fails.fault_is b)
+  settling_unfollowed = roomy_unfollowed job has_room settling
 
 ok_or_err : {X Y : Type 0} {x : X} {y : Y} → Ok x ≡ Err y → ⊥
 ok_or_err e = absurd cc

@@ -240,33 +240,41 @@ abbrev pub text_if : Option (Report Sequenced) → List ℕ
 text_if None = []
 text_if (Some report) = text_of report
 
--- what went out: the report's text, a front of it, or a front of the error line; where memory was wanting, a front of the
--- text and then of the line
-abbrev pub Wrote : Option (List ℕ) → Option (List ℕ) → Option (Report Sequenced) → Option RunFault → Type 0
-Wrote old new report None = Appends old new (text_if report)
-Wrote old new report (Some Output) = AppendsFront old new (text_if report)
-Wrote old new report (Some OutOfMemory) = FrontAndLine old new (text_if report) (line_of OutOfMemory)
-Wrote old new report (Some fault) = AppendsFront old new (line_of fault)
+-- what went out where this text was to be written: it, a front of it, or a front of the error line; where memory was wanting, a
+-- front of the text and then of the line
+abbrev pub WroteText : Option (List ℕ) → Option (List ℕ) → List ℕ → Option RunFault → Type 0
+WroteText old new text None = Appends old new text
+WroteText old new text (Some Output) = AppendsFront old new text
+WroteText old new text (Some OutOfMemory) = FrontAndLine old new text (line_of OutOfMemory)
+WroteText old new text (Some fault) = AppendsFront old new (line_of fault)
 
--- the line of a fault went out, behind a front of the report's text where memory was wanting for the rest
-abbrev pub WroteLine : Option (List ℕ) → Option (List ℕ) → Option (Report Sequenced) → RunFault → Type 0
-WroteLine old new report OutOfMemory = (front : ℕ) × Appends old new (take front (text_if report) ++ line_of OutOfMemory)
-WroteLine old new report fault = Appends old new (line_of fault)
+-- the same where it is the report's text, if there is a report
+abbrev pub Wrote : Option (List ℕ) → Option (List ℕ) → Option (Report Sequenced) → Option RunFault → Type 0
+Wrote old new report fault = WroteText old new (text_if report) fault
+
+-- the line of a fault went out, behind a front of the text where memory was wanting for the rest
+abbrev pub WroteLine : Option (List ℕ) → Option (List ℕ) → List ℕ → RunFault → Type 0
+WroteLine old new text OutOfMemory = (front : ℕ) × Appends old new (take front text ++ line_of OutOfMemory)
+WroteLine old new text fault = Appends old new (line_of fault)
 
 -- a line went out, or the sink failed, and its count rose, or memory was wanting in a sink that grows
 abbrev pub LineWent : Bool → ℕ → ℕ → Type 0 → Type 0
 LineWent grows before now Went = Went ⊎ (Rose before now ⊎ IsTrue grows)
 
--- the same of the line of a fault; after a failed write there is none
-abbrev pub LineOut : Bool → Option (List ℕ) → Option (List ℕ) → ℕ → ℕ → Option (Report Sequenced) → RunFault → Type 0
-LineOut grows old new before now report Output = ⊤
-LineOut grows old new before now report fault = LineWent grows before now (WroteLine old new report fault)
+-- the same of the line of a fault behind this text; after a failed write there is none
+abbrev pub LineBehind : Bool → Option (List ℕ) → Option (List ℕ) → ℕ → ℕ → List ℕ → RunFault → Type 0
+LineBehind grows old new before now text Output = ⊤
+LineBehind grows old new before now text fault = LineWent grows before now (WroteLine old new text fault)
 
--- why the report's text wasn't written whole: a front of it went out, and the sink failed, or memory was wanting
-abbrev pub WriteFails : Option (List ℕ) → Option (List ℕ) → Report Sequenced → ℕ → ℕ → RunFault → Type 0
-WriteFails old new report before now Output = AppendsFront old new (text_of report) × Rose before now
-WriteFails old new report before now OutOfMemory = AppendsFront old new (text_of report)
-WriteFails old new report before now fault = ⊥
+-- the same where it is the report's text, if there is a report
+abbrev pub LineOut : Bool → Option (List ℕ) → Option (List ℕ) → ℕ → ℕ → Option (Report Sequenced) → RunFault → Type 0
+LineOut grows old new before now report fault = LineBehind grows old new before now (text_if report) fault
+
+-- why a text wasn't written whole: a front of it went out, and the sink failed, or memory was wanting
+abbrev pub WriteFails : Option (List ℕ) → Option (List ℕ) → List ℕ → ℕ → ℕ → RunFault → Type 0
+WriteFails old new text before now Output = AppendsFront old new text × Rose before now
+WriteFails old new text before now OutOfMemory = AppendsFront old new text
+WriteFails old new text before now fault = ⊥
 
 -- a fault that may come before the report is there
 abbrev pub IsEarly : RunFault → Type 0

@@ -9,12 +9,16 @@
 //! [`follow`] takes any link: it fetches the target's range, checks it against the root, and settles blocks on it.
 //! Its contract stands over the definitions of `specs/Follow.antt`.
 //!
+//! [`follow_opened`] settles blocks on a log of accounts that are given, as a run does on the log that a job serves;
+//! [`printed`], [`unprinted`] and [`refused`] end a run.
+//!
 //! What a run answers is said by the contract of [`run`], over the definitions of `specs/Run.antt`: the report is that
 //! of the job's blocks over the log that the job serves, or over what a dialed link gave, and each fault has its cause.
 //! The job, the printed report and the error lines are described in docs/FORMATS.md.
 #![tactic(auto)]
 
 mod digits;
+mod ending;
 mod error_line;
 mod fault;
 mod following;
@@ -28,17 +32,22 @@ mod program;
 mod reading;
 mod report_text;
 mod served;
+mod words;
 mod writing;
 
 pub use digits::decimal_digits;
+pub use ending::{printed, refused, starved, unprinted, write_line};
 pub use error_line::{number_line, root_line, server_line, update_line};
 pub use fault::Fault;
 pub use following::follow;
 pub use key_text::hex_digits;
+pub use local::follow_opened;
 pub use outcome::{Outcome, RunFault, status_of};
-pub use program::{run, starved, write_line};
+pub use program::run;
 pub use reading::{ReadFault, read_all};
+pub use report_text::push_end;
 pub use served::served_log;
+pub use words::workers_of;
 pub use writing::{write_all, write_pieces};
 
 #[cfg(test)]

@@ -1,5 +1,6 @@
 //! A job's own log, followed over a link in memory.
 ghost use Rattle.std.specs.Prelude.{◌≡◌, ◌≤◌, ◌^◌, [], IfOk, IfErr};
+ghost use Rattle.ledger_job.specs.declared.job.Job.{Job};
 ghost use Rattle.ledger_log.specs.Any.{any_floor, any_spelling};
 ghost use Rattle.ledger_program.specs.Peer.{asked};
 ghost use Rattle.ledger_program.specs.Run.{ReportsJob, LocalFails, SpansLog, run_fault_of};
@@ -12,7 +13,8 @@ use crate::fault::Fault;
 use crate::once::follow_once;
 use crate::outcome::RunFault;
 use crate::served::{open_served, served};
-use ledger_job::{Job, JobLimits};
+use ledger_codec::List;
+use ledger_job::{Block, Job, JobLimits, Open, Payment};
 use ledger_log::{AnyFamily, Log, Target};
 use ledger_merkle::{Location, Sha256Hasher};
 use ledger_settling::Report;
@@ -69,8 +71,40 @@ pub(crate) fn run_fault(fault: Fault) -> RunFault
     }
 }
 
-/// The report of the job's blocks over the log that it serves, followed over a link in memory whose calls don't
-/// fail. Neither the job's accounts nor the served log take memory while the blocks are settled.
+/// The report of these blocks over the log that opens these accounts, followed over a link in memory whose calls don't
+/// fail, so many operations at a time. Neither the accounts nor the served log take memory while the blocks are settled.
+pub fn follow_opened<R: RandomSource + Threads + Sync, St: Strategy>(
+    rt: &R,
+    alloc: Global,
+    opens: List<Open>,
+    limits: &Limits,
+    blocks: List<Block<Payment>>,
+    strategy: &St,
+) -> Result<Report<Sequenced>, RunFault>
+    ensures reports { IfOk result (λ report. (job : Job) → job.opens ≡ opens → job.blocks ≡ blocks → ReportsJob job report) }
+    ensures fails { IfErr result (λ fault. (job : Job) → job.opens ≡ opens → job.blocks ≡ blocks → LocalFails job fault) }
+{
+    let ops = served(alloc, opens.as_slice())?;
+    drop(opens);
+    let log = open_served(alloc, ops)?;
+    let target = target_of(&log);
+    let link = link_to(alloc, log);
+    match follow_once(
+        rt,
+        alloc,
+        &target,
+        &mut NoTargets,
+        limits,
+        blocks.as_slice(),
+        link,
+        strategy,
+    ) {
+        Ok(report) => Ok(report),
+        Err(fault) => Err(run_fault(fault)),
+    }
+}
+
+/// The report of the job's blocks over the log that it serves.
 pub(crate) fn follow_local<R: RandomSource + Threads + Sync, St: Strategy>(
     rt: &R,
     alloc: Global,
@@ -80,29 +114,9 @@ pub(crate) fn follow_local<R: RandomSource + Threads + Sync, St: Strategy>(
     ensures reports { IfOk result (ReportsJob job) }
     ensures fails { IfErr result (LocalFails job) }
 {
-    let Job {
-        opens,
-        limits,
-        blocks,
-        ..
-    } = job;
-    let ops = served(alloc, opens.as_slice())?;
-    drop(opens);
-    let log = open_served(alloc, ops)?;
-    let target = target_of(&log);
-    let limits = limits_of(limits);
-    let link = link_to(alloc, log);
-    match follow_once(
-        rt,
-        alloc,
-        &target,
-        &mut NoTargets,
-        &limits,
-        blocks.as_slice(),
-        link,
-        strategy,
-    ) {
+    let limits = limits_of(job.limits);
+    match follow_opened(rt, alloc, job.opens, &limits, job.blocks, strategy) {
         Ok(report) => Ok(report),
-        Err(fault) => Err(run_fault(fault)),
+        Err(fault) => Err(fault),
     }
 }

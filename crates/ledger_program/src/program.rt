@@ -1,27 +1,25 @@
 //! The call that does what the words say, over a job that is read, a dialer and a sink that is written to.
 ghost use Rattle.std.specs.Prelude.{◌≡◌, ◌≤◌, ◌==◌, ◌⊎◌, Option, Some, None, true, false, not, map, is_some, IfOk, IfErr, IfSome, IsSome, OnOk, string_bytes};
-ghost use Rattle.std.specs.Io.KnownBytes.{Appends, IsAtEnd};
+ghost use Rattle.std.specs.Io.KnownBytes.{IsAtEnd};
 ghost use Rattle.ledger_codec.specs.Causes.{Rose};
 ghost use Rattle.ledger_job.specs.Places.{lacks_target};
 ghost use Rattle.ledger_job.specs.declared.kind.JobKind.TheVariants.{Local as local_kind, Follow as follow_kind};
-ghost use Rattle.ledger_program.specs.ErrorLines.{line_of};
-ghost use Rattle.ledger_program.specs.Forms.{one_word, two_words, form_of};
+ghost use Rattle.ledger_program.specs.Forms.{form_of};
 ghost use Rattle.ledger_program.specs.Peer.{link_over};
-ghost use Rattle.ledger_program.specs.Run.{status_of, IsJob, ReadFails, Reports, JobFails, Attempted, Followed, Wrote, LineWent, LineOut, WriteFails, IsEarly, IsLate, Caused, Completes, has_report, is_read, is_undialed};
-ghost use Rattle.ledger_program.specs.Writing.{AppendsFront};
-ghost use Rattle.ledger_program.specs.declared.outcome.RunFault.TheVariants.{Output, OutOfMemory};
+ghost use Rattle.ledger_program.specs.Run.{status_of, IsJob, ReadFails, Reports, JobFails, Attempted, Followed, Wrote, LineOut, IsEarly, IsLate, Caused, Completes, has_report, is_read, is_undialed};
+ghost use Rattle.ledger_program.specs.declared.outcome.RunFault.TheVariants.{Output};
 
-use crate::error_line::error_line;
+use crate::ending::{printed, refused, unprinted};
 use crate::local::follow_local;
-use crate::outcome::{Outcome, RunFault, status_of};
+use crate::outcome::{Outcome, RunFault};
 use crate::peer::follow_peer;
 use crate::reading::{ReadFault, read_all};
 use crate::report_text::report_text;
-use crate::writing::write_all;
-use ledger_codec::{Sink, SinkError, Source};
+use crate::words::{address_of, form_of, workers_in};
+use ledger_codec::{Sink, Source};
 use ledger_job::{Job, JobFault, JobKind, parse_job};
 use ledger_settling::Report;
-use ledger_strategy::Sequential;
+use ledger_strategy::{Sequential, Strategy, Workers};
 use ledger_transfers::Sequenced;
 use std::alloc::Global;
 use std::random::RandomSource;
@@ -30,45 +28,6 @@ use sync_net::Dialer;
 
 /// The greatest number of bytes of a job.
 const MAX_JOB: usize = 67_108_864;
-
-fn one_word(word: &str) -> Option<JobKind>
-    ensures { result ≡ one_word word.now }
-{
-    if word == "local" {
-        Some(JobKind::Local)
-    } else {
-        None
-    }
-}
-
-fn two_words(word: &str) -> Option<JobKind>
-    ensures { result ≡ two_words word.now }
-{
-    if word == "follow" {
-        Some(JobKind::Follow)
-    } else {
-        None
-    }
-}
-
-/// The kind of job that the words ask for, if they are a form of the program.
-fn form_of(words: &[String]) -> Option<JobKind>
-    ensures { result ≡ form_of (map string_bytes words.now) }
-{
-    match words {
-        [word] => one_word(word.as_str()),
-        [word, _] => two_words(word.as_str()),
-        _ => None,
-    }
-}
-
-/// The address among the words, where there is one.
-fn address_of(words: &[String]) -> &str {
-    match words {
-        [_, address] => address.as_str(),
-        _ => "",
-    }
-}
 
 /// The job of this kind that a source holds.
 fn read_job<S: Source>(alloc: Global, kind: JobKind, source: &mut S) -> Result<Job, RunFault>
@@ -93,13 +52,14 @@ fn read_job<S: Source>(alloc: Global, kind: JobKind, source: &mut S) -> Result<J
 }
 
 /// Follows a job of this kind: over its own log, or over the link to the address.
-fn follow_job<R: RandomSource + Threads + Sync, D: Dialer>(
+fn follow_by<R: RandomSource + Threads + Sync, D: Dialer, St: Strategy>(
     rt: &R,
     alloc: Global,
     kind: JobKind,
     job: Job,
     address: &str,
     dialer: &mut D,
+    strategy: &St,
 ) -> Result<Report<Sequenced>, RunFault>
     requires { lacks_target kind (is_some job.target) ≡ false }
     ensures reports { IfOk result (Reports kind job
@@ -110,8 +70,32 @@ fn follow_job<R: RandomSource + Threads + Sync, D: Dialer>(
     ensures undialed { kind ≡ local_kind → dialer.new ≡ dialer.old }
 {
     match kind {
-        JobKind::Local => follow_local(rt, alloc, job, &Sequential),
-        JobKind::Follow => follow_peer(rt, alloc, job, address, dialer, &Sequential),
+        JobKind::Local => follow_local(rt, alloc, job, strategy),
+        JobKind::Follow => follow_peer(rt, alloc, job, address, dialer, strategy),
+    }
+}
+
+/// The same by so many workers, or on the caller.
+fn follow_job<R: RandomSource + Threads + Sync, D: Dialer>(
+    rt: &R,
+    alloc: Global,
+    kind: JobKind,
+    job: Job,
+    address: &str,
+    dialer: &mut D,
+    workers: Option<Workers>,
+) -> Result<Report<Sequenced>, RunFault>
+    requires { lacks_target kind (is_some job.target) ≡ false }
+    ensures reports { IfOk result (Reports kind job
+        (link_over (D.service dialer.old) (D.wire dialer.old) (D.wire dialer.new) (D.faults dialer.old) (D.faults dialer.new))) }
+    ensures fails { IfErr result (JobFails kind job
+        (link_over (D.service dialer.old) (D.wire dialer.old) (D.wire dialer.new) (D.faults dialer.old) (D.faults dialer.new))
+        (D.dials dialer.old) (D.dials dialer.new)) }
+    ensures undialed { kind ≡ local_kind → dialer.new ≡ dialer.old }
+{
+    match workers {
+        Some(workers) => follow_by(rt, alloc, kind, job, address, dialer, &workers),
+        None => follow_by(rt, alloc, kind, job, address, dialer, &Sequential),
     }
 }
 
@@ -142,93 +126,26 @@ fn attempt<R: RandomSource + Threads + Sync, S: Source, D: Dialer>(
         Ok(job) => job,
         Err(fault) => return Err(fault),
     };
-    match follow_job(rt, alloc, kind, job, address_of(words), dialer) {
+    let address = address_of(words);
+    match follow_job(rt, alloc, kind, job, address, dialer, workers_in(words)) {
         Ok(report) => Ok(report),
         Err(fault) => Err(fault),
     }
 }
 
-/// Writes the text of a report.
-fn write_report<K: Sink>(
-    alloc: Global,
-    report: &Report<Sequenced>,
-    out: &mut K,
-) -> Result<(), RunFault>
-    ensures wrote { OnOk result (Wrote (K.written out.old) (K.written out.new) (Some report.now) None) }
-    ensures fails { IfErr result (WriteFails (K.written out.old) (K.written out.new) report.now (K.faults out.old) (K.faults out.new)) }
-    ensures later { K.faults out.old ≤ K.faults out.new }
-{
-    let Ok(text) = report_text(alloc, report) else {
-        return Err(RunFault::OutOfMemory);
-    };
-    match write_all(out, text.as_bytes()) {
-        Ok(()) => Ok(()),
-        Err(SinkError::Failed) => Err(RunFault::Output),
-        Err(SinkError::OutOfMemory) => Err(RunFault::OutOfMemory),
-    }
-}
-
-/// Writes the line of a fault, as far as the sink takes it.
-pub fn write_line<K: Sink>(fault: &RunFault, out: &mut K)
-    ensures front { AppendsFront (K.written out.old) (K.written out.new) (line_of fault.now) }
-    ensures whole { LineWent K.grows (K.faults out.old) (K.faults out.new)
-        (Appends (K.written out.old) (K.written out.new) (line_of fault.now)) }
-    ensures later { K.faults out.old ≤ K.faults out.new }
-{
-    let _written = error_line(out, fault);
-}
-
-/// The outcome of a run without a report.
-fn refused<K: Sink>(fault: RunFault, out: &mut K) -> Outcome
-    requires { IsEarly fault }
-    ensures status { result.status ≡ status_of (Some fault) }
-    ensures report { result.report ≡ None }
-    ensures fault { result.fault ≡ Some fault }
-    ensures wrote { Wrote (K.written out.old) (K.written out.new) None (Some fault) }
-    ensures line { LineOut K.grows (K.written out.old) (K.written out.new) (K.faults out.old) (K.faults out.new) None fault }
-{
-    write_line(&fault, out);
-    Outcome {
-        status: status_of(&fault),
-        report: None,
-        fault: Some(fault),
-    }
-}
-
-/// The outcome where there was no memory for the words themselves, with its line: for who collects them.
-pub fn starved<K: Sink>(out: &mut K) -> Outcome
-    ensures status { result.status ≡ status_of (Some OutOfMemory) }
-    ensures fault { result.fault ≡ Some OutOfMemory }
-    ensures line { LineOut K.grows (K.written out.old) (K.written out.new) (K.faults out.old) (K.faults out.new) None OutOfMemory }
-{
-    refused(RunFault::OutOfMemory, out)
-}
-
 /// The outcome of a run with a report, which is printed.
-fn printed<K: Sink>(alloc: Global, report: Report<Sequenced>, out: &mut K) -> Outcome
+fn reported<K: Sink>(alloc: Global, report: Report<Sequenced>, out: &mut K) -> Outcome
     ensures status { result.status ≡ status_of result.fault }
     ensures report { result.report ≡ Some report }
     ensures fault { IfSome result.fault IsLate }
     ensures wrote { Wrote (K.written out.old) (K.written out.new) (Some report) result.fault }
     ensures output { result.fault ≡ Some Output → Rose (K.faults out.old) (K.faults out.new) }
     ensures line { IfSome result.fault
-        (LineOut K.grows (K.written out.old) (K.written out.new) (K.faults out.old) (K.faults out.new) result.report) }
+        (LineOut K.grows (K.written out.old) (K.written out.new) (K.faults out.old) (K.faults out.new) (Some report)) }
 {
-    let fault = match write_report(alloc, &report, out) {
-        Ok(()) => {
-            return Outcome {
-                status: 0,
-                report: Some(report),
-                fault: None,
-            };
-        }
-        Err(fault) => fault,
-    };
-    write_line(&fault, out);
-    Outcome {
-        status: status_of(&fault),
-        report: Some(report),
-        fault: Some(fault),
+    match report_text(alloc, &report) {
+        Ok(text) => printed(report, text.as_str(), out),
+        Err(_) => unprinted(report, out),
     }
 }
 
@@ -259,7 +176,7 @@ fn act<R: RandomSource + Threads + Sync, S: Source, D: Dialer, K: Sink>(
     ensures early { is_undialed result.fault ≡ true → dialer.new ≡ dialer.old }
 {
     match attempt(rt, alloc, words, job, dialer) {
-        Ok(report) => printed(alloc, report, out),
+        Ok(report) => reported(alloc, report, out),
         Err(fault) => refused(fault, out),
     }
 }

@@ -123,8 +123,9 @@ fn push_accounts(
     Ok(())
 }
 
+/// Adds the lines of a log's size and root, which end a report.
 #[tactic(auto, unfolding(crate::specs::Text::end_lines))]
-fn push_end(alloc: Global, out: &mut String, size: u64, root: &Digest) -> Result<(), AllocError>
+pub fn push_end(alloc: Global, out: &mut String, size: u64, root: &Digest) -> Result<(), AllocError>
     ensures { OnOk result (string_bytes out.new ≡ string_bytes out.old ++ end_lines size root.now) }
 {
     let digits = hex::encode(alloc, root)?;

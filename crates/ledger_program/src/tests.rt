@@ -11,6 +11,7 @@ use std::test::Fail;
 use std::thread::Threads;
 use sync_net::{DialFailed, Dialer, ErrorCode, Link, LinkError};
 
+mod options;
 mod rounds;
 
 /// A dialer that is never called.

@@ -1,5 +1,5 @@
 use Rattle.ledger_program.proofs.Fronts.{front_of_line, line_went}
-use Rattle.ledger_program.proofs.program.write_line.Goals as goal
+use Rattle.ledger_program.proofs.ending.write_line.Goals as goal
 
 pub returns-clause-front : goal.returns-clause-front
 returns-clause-front g c = front_of_line _ _ _ _ _ c.error_line-written.result c.error_line-written.ensures
