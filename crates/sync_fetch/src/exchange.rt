@@ -1,5 +1,5 @@
 //! One request over a link, and its answer.
-ghost use Rattle.std.specs.Prelude.{◌≡◌, ◌<◌, ◌≤◌, ◌∷◌, [], List as Items, ℕ, Ok, length, IsTrue, false};
+ghost use Rattle.std.specs.Prelude.{◌≡◌, ◌<◌, ◌≤◌, ◌∷◌, [], List as Items, ℕ, Ok, OnOk, length, IsTrue, false};
 ghost use Rattle.ledger_codec.specs.Sequences.{all_of, string_written};
 ghost use Rattle.sync_client.specs.Counts.{CountKept, NeverNetwork};
 ghost use Rattle.sync_net.specs.Core.{LogData};
@@ -95,6 +95,7 @@ pub(crate) fn await_reply<Op: Spell, L: Link>(
     link: &mut L,
 ) -> Result<Message<Op>, SyncFault>
     requires live { machine.old.closed ≡ false }
+    ensures later { OnOk result (L.faults link.old ≤ L.faults link.new) }
     ensures exact { IsTrue L.exact → CountKept result (L.faults link.old) (L.faults link.new) }
     ensures steady { L.steady link.old →
         L.steady link.new × NeverNetwork result (L.faults link.old) (L.faults link.new) }

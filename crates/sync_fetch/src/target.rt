@@ -1,5 +1,5 @@
 //! Fetching what there is to sync to.
-ghost use Rattle.std.specs.Prelude.{◌≡◌, [], IsTrue};
+ghost use Rattle.std.specs.Prelude.{◌≡◌, ◌≤◌, [], OnOk, IsTrue};
 ghost use Rattle.sync_client.specs.Counts.{CountKept, NeverNetwork};
 ghost use Rattle.sync_client.specs.Owing.{Begins};
 ghost use Rattle.sync_net.specs.Core.{LogData};
@@ -20,6 +20,7 @@ pub fn fetch_target<Op: Spell, L: Link>(
     link: &mut L,
 ) -> Result<Target, SyncFault>
     requires { machine.old.pending ≡ [] }
+    ensures later { OnOk result (L.faults link.old ≤ L.faults link.new) }
     ensures fetched { TargetFetched result Op.reading Op.written machine.old machine.new (L.wire link.old)
         (L.wire link.new) (L.faults link.old) (L.faults link.new) }
     ensures one_way { OneWay Op.reading }
@@ -51,6 +52,7 @@ pub fn fetch_compact_target<Op: Spell, L: Link>(
     link: &mut L,
 ) -> Result<CompactTarget, SyncFault>
     requires { machine.old.pending ≡ [] }
+    ensures later { OnOk result (L.faults link.old ≤ L.faults link.new) }
     ensures fetched { CompactTargetFetched result Op.reading Op.written machine.old machine.new
         (L.wire link.old) (L.wire link.new) (L.faults link.old) (L.faults link.new) }
     ensures one_way { OneWay Op.reading }

@@ -11,6 +11,7 @@ loop-message-init g c =
       most = omega arith;
       live = c.requires.live;
       strays = omega arith;
+      later = omega arith;
       exact = λ e. refl;
       steady = λ s. (s, refl);
       waited = λ p e. waited_first g.Op.Spell.reading p c.args.machine.now (g.L.Link.wire c.args.link.now) (g.L.Link.faults c.args.link.now) e;
@@ -23,6 +24,11 @@ returns-in-Ok-Reply-clause-awaits g c p e =
     let a = rw c.in-Ok-Reply.field-0-is at c.in-Ok-Reply.ensures.answers in
     reply_came g.Op.Spell.reading p c.args.machine.now (g.L.Link.wire c.args.link.now) (g.L.Link.faults c.args.link.now) c.loop-message.machine c.next_answer.new.machine (g.L.Link.wire c.loop-message.link) (g.L.Link.wire c.next_answer.new.link) (g.L.Link.faults c.loop-message.link) (g.L.Link.faults c.next_answer.new.link) c.loop-message.strays
     c.in-Ok-Reply.field-0-0 c.in-Ok-Reply.field-0-1 c.in-Ok-Reply.message (i.waited p e) a
+
+pub returns-in-Ok-Reply-clause-later : goal.returns-in-Ok-Reply-clause-later
+returns-in-Ok-Reply-clause-later g c =
+    let a = rw c.in-Ok-Reply.field-0-is at c.in-Ok-Reply.ensures.answers in
+    omega (arith, c.loop-message.invariant.later, a.2)
 
 pub returns-then-strays-ge-MAX_STRAYS-clause-awaits : goal.returns-then-strays-ge-MAX_STRAYS-clause-awaits
 returns-then-strays-ge-MAX_STRAYS-clause-awaits g c p e =
@@ -41,6 +47,7 @@ loop-message-preserved g c =
       most = omega (arith, i.most, c.next_answer.auto.buffer);
       live = ap (λ (v : MachineView). v.closed) a.3.7 ∙ a.3.3;
       strays = omega (arith, below);
+      later = omega (arith, i.later, a.2);
       exact = λ e. c.in-Ok-Stray.ensures.exact e ∙ i.exact e;
       steady = λ e. (let r = c.in-Ok-Stray.ensures.steady (i.steady e).0 in (r.0, r.1 ∙ (i.steady e).1));
       waited = λ p e. waited_stray g.Op.Spell.reading p c.args.machine.now (g.L.Link.wire c.args.link.now) (g.L.Link.faults c.args.link.now) c.loop-message.machine c.next_answer.new.machine (g.L.Link.wire c.loop-message.link) (g.L.Link.wire c.next_answer.new.link) (g.L.Link.faults c.loop-message.link) (g.L.Link.faults c.next_answer.new.link) c.loop-message.strays

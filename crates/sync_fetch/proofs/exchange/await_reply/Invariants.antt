@@ -16,6 +16,7 @@ invariant-loop-message g l =
       most : length l.buffer ≤ 4096;
       live : l.machine.closed ≡ false;
       strays : l.strays ≤ 1024;
+      later : g.L.Link.faults l.fn.link ≤ g.L.Link.faults l.link;
       exact : IsTrue g.L.Link.exact → g.L.Link.faults l.link ≡ g.L.Link.faults l.fn.link;
       steady : g.L.Link.steady l.fn.link → g.L.Link.steady l.link × (g.L.Link.faults l.link ≡ g.L.Link.faults l.fn.link);
       waited : (p : Pending) → l.fn.machine.pending ≡ p ∷ [] → Waited g.Op.Spell.reading p l.fn.machine l.machine (g.L.Link.wire l.fn.link) (g.L.Link.wire l.link) (g.L.Link.faults l.fn.link) (g.L.Link.faults l.link) l.strays;

@@ -1,4 +1,4 @@
-use Rattle.std.proofs.Common.{refl, subst}
+use Rattle.std.proofs.Common.{refl, subst, arith}
 use Rattle.sync_net.specs.declared.ask.Ask.TheVariants as asks
 use Rattle.sync_net.specs.declared.message.Message.{Message}
 use Rattle.sync_client.specs.declared.fault.SyncFault.{SyncFault}
@@ -51,3 +51,6 @@ pub returns-clause-serving : goal.returns-clause-serving
 returns-clause-serving g c held h b =
     target_came g.Op.Spell.reading g.Op.Spell.written g.Op.Spell.sound g.Op.Spell.fits g.met.Op.Spell.laws held h c.args.machine.now c.submit_sync_target-made.new.self c.await_reply.new.machine c.submit_sync_target-made.result c.in-Ok.field-0 (g.L.Link.service c.args.link.now) (g.L.Link.service c.send_request.new.link) (g.L.Link.service c.await_reply.new.link) c.in-Ok-await_reply.message c.in-GetSyncTargetResponse.answer
     c.requires b c.submit_sync_target-made.ensures c.in-Ok.ensures.serving c.in-Ok-await_reply.ensures.serving c.in-GetSyncTargetResponse.is
+
+pub returns-clause-later : goal.returns-clause-later
+returns-clause-later g c = omega (arith, c.in-Ok.ensures.sends.3, c.in-Ok-await_reply.ensures.later)
