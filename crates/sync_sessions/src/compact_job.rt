@@ -59,7 +59,7 @@ impl<
     F: ServedFamily + CompactFamily,
     DB: CompactServed<F> + Drop,
     L: Link + Drop,
-    G: Gate,
+    G: Gate + Drop,
 > CompactSession<F, DB, L, G>
 where
     F::Op: Spell,

@@ -64,7 +64,7 @@ impl<F: Family, L, G> Session<F, L, G> {
     }
 }
 
-impl<F: ServedFamily, L: Link + Drop, G: Gate> Session<F, L, G>
+impl<F: ServedFamily, L: Link + Drop, G: Gate + Drop> Session<F, L, G>
 where
     F::Op: Spell,
 {
