@@ -1,0 +1,6 @@
+pub mod Making
+pub mod Names
+pub mod Opening
+pub mod Settled
+pub mod Sums
+pub mod Turns

@@ -1,0 +1,5 @@
+pub mod Generated
+pub mod Runs
+pub mod Sizes
+pub mod Text
+pub mod Words
