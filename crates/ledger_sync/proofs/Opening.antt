@@ -1,5 +1,5 @@
 -- A part that was fetched and opened.
-use Rattle.std.proofs.Common.{◌≡◌, ℕ, List, [], Option, Ok, Err, sym, subst, ◌∙◌, inr}
+use Rattle.std.proofs.Common.{◌≡◌, ◌≤◌, ℕ, List, [], Option, Ok, Err, sym, subst, ◌∙◌, inr}
 use Rattle.ledger_codec.specs.Parsing.{Parsed}
 use Rattle.ledger_merkle.specs.declared.proof.Part.{Part as Fetched}
 use Rattle.ledger_log.specs.declared.target.Target.{Target}
@@ -23,20 +23,20 @@ use Rattle.ledger_sync.specs.Logs.{SessionEnded, PartFetched, Opened, LogFetched
 pub nothing_pending : {Op : Type 0} (target : Target) (read : List ℕ → Parsed Op) (written : Op → List ℕ) (m n : MachineView) (before now : Option Wire) (count risen : ℕ) → TargetFetched (Ok target) read written m n before now count risen → n.pending ≡ []
 nothing_pending target read written m n before now count risen (r, e, (live, number, next, came)) = came.nothing_pending
 
-module _ {Op : Type 0} (spelling : Op → List ℕ) (limits : LimitsView) (read : List ℕ → Parsed Op) (written : Op → List ℕ) (m mid n : MachineView) (before between now : Option Wire) (count middle risen : ℕ) (target : Target) (h : TargetFetched (Ok target) read written m mid before between count middle) where
+module _ {Op : Type 0} (spelling : Op → List ℕ) (limits : LimitsView) (read : List ℕ → Parsed Op) (written : Op → List ℕ) (m mid n : MachineView) (before between now : Option Wire) (count middle risen : ℕ) (target : Target) (h : TargetFetched (Ok target) read written m mid before between count middle) (le : count ≤ middle) where
   -- the session for the fetched target gave this part
   abbrev pub part_so : (x : Target × HashedPart Op) → Ended (synced_part {E = SyncFault} (Ok x)) (origin_of read written spelling target [] limits mid between middle) n [] now risen → TakesUpdates {X = HashedPart Op} (Ok x) target [] [] → IsPartOf spelling x.0 x.1.part → PartFetched spelling limits read written m n before now count risen
   part_so x ended took whole = record {
     synced = x.0;
     part = x.1.part;
-    session = record { target = target; machine = mid; wire = between; faults_then = middle; fetched = h; ended = ended };
+    session = record { target = target; machine = mid; wire = between; faults_then = middle; fetched = h; later = le; ended = ended };
     took = took;
     whole = whole;
   }
 
   -- the session for the fetched target gave none
   abbrev pub session_so : (fault : SyncFault) → Ended {Op = Op} (Err fault) (origin_of read written spelling target [] limits mid between middle) n [] now risen → SessionEnded spelling limits (Err fault) read written m n before now count risen
-  session_so fault ended = record { target = target; machine = mid; wire = between; faults_then = middle; fetched = h; ended = ended }
+  session_so fault ended = record { target = target; machine = mid; wire = between; faults_then = middle; fetched = h; later = le; ended = ended }
 
   -- its part isn't opened
   pub unopened : (floor_of : Op → Option ℕ) (p : PartFetched spelling limits read written m n before now count risen) (fault : StateFault) → Opened floor_of p.part (Err fault) → LogFetched spelling floor_of limits (Err fault) read written m n before now count risen

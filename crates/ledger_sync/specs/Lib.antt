@@ -1,2 +1,5 @@
+pub mod Brought
+pub mod Compacts
 pub mod Forms
 pub mod Logs
+pub mod Served

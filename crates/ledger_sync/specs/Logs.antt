@@ -1,5 +1,5 @@
 -- What came of fetching a target and its range, and the log that was made of it.
-use Rattle.std.specs.Prelude.{◌≡◌, ◌⊎◌, ℕ, List, [], Option, Some, None, Result, Ok, Err}
+use Rattle.std.specs.Prelude.{◌≡◌, ◌⊎◌, ◌≤◌, ℕ, List, [], Option, Some, None, Result, Ok, Err}
 use Rattle.ledger_codec.specs.Parsing.{Parsed}
 use Rattle.ledger_merkle.specs.declared.proof.Part.{Part as Fetched}
 use Rattle.ledger_log.specs.View.{LogView}
@@ -42,6 +42,7 @@ module _ {Op : Type 0} where
     pub wire : Option Wire
     pub faults_then : ℕ
     pub fetched : TargetFetched (Ok target) read written m machine before wire count faults_then
+    pub later : count ≤ faults_then
     pub ended : Ended result (origin_of read written spelling target [] limits machine wire faults_then) n [] now risen
 
   -- a part of the served target was fetched

@@ -1,5 +1,6 @@
 //! What the words of `sync` ask for.
-ghost use Rattle.std.specs.Prelude.{◌≡◌, map, string_bytes, None};
+ghost use Rattle.std.specs.Prelude.{◌≡◌, map, string_bytes, None, true, IfSome};
+ghost use Rattle.ledger_examples.specs.Names.{has_client_mode};
 ghost use Rattle.ledger_sync.specs.Forms.{form_of, form_given, nothing_given};
 
 use crate::options::{Given, options_of};
@@ -19,7 +20,8 @@ pub struct SyncForm {
 
 /// What the words ask for, None exactly where they are no form of `sync`.
 pub fn sync_form(words: &[String]) -> Option<SyncForm>
-    ensures { result ≡ form_of (map string_bytes words.now) }
+    ensures form { result ≡ form_of (map string_bytes words.now) }
+    ensures client { IfSome result (λ form. has_client_mode form.family form.mode ≡ true) }
 {
     match words {
         [word, _, options @ ..] => {
@@ -43,7 +45,8 @@ const NOTHING: Given = Given {
 /// The form with what was given, and the default of what wasn't. None where the family has no such client or
 /// the limits aren't any.
 fn form_given(given: Given) -> Option<SyncForm>
-    ensures { result ≡ form_given given }
+    ensures form { result ≡ form_given given }
+    ensures client { IfSome result (λ form. has_client_mode form.family form.mode ≡ true) }
 {
     let mode = given.mode.unwrap_or(SyncMode::Full);
     let family = given.family.unwrap_or(DatabaseType::Any);

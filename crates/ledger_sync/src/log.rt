@@ -2,7 +2,10 @@
 ghost use Rattle.std.specs.Prelude.{◌≡◌, [], IsTrue};
 ghost use Rattle.sync_client.specs.Parts.{IsHashed};
 ghost use Rattle.sync_fetch.specs.States.{KeptUnlessNetwork, KeptAndNoNetwork};
+ghost use Rattle.sync_client.specs.Owing.{AreSent, Begins};
+ghost use Rattle.sync_net.specs.Core.{LogData};
 ghost use Rattle.ledger_sync.specs.Logs.{Opened, LogFetched, refused};
+ghost use Rattle.ledger_sync.specs.Served.{StandsFor, LogServed};
 
 use ledger_codec::Spell;
 use ledger_log::{Family, Log, LogFault};
@@ -23,9 +26,15 @@ pub fn fetch_log<F: Family, L: Link>(
 where
     F::Op: Spell,
     requires { machine.old.pending ≡ [] }
-    ensures fetched { LogFetched F.Op.spelling F.floor_of limits.now result F.Op.reading F.Op.written machine.old machine.new (L.wire link.old) (L.wire link.new) (L.faults link.old) (L.faults link.new) }
+    ensures fetched { LogFetched F.Op.spelling F.floor_of limits.now result F.Op.reading F.Op.written
+        machine.old machine.new (L.wire link.old) (L.wire link.new) (L.faults link.old) (L.faults link.new) }
     ensures exact { IsTrue L.exact → KeptUnlessNetwork result (L.faults link.old) (L.faults link.new) }
-    ensures steady { L.steady link.old → L.steady link.new × KeptAndNoNetwork result (L.faults link.old) (L.faults link.new) }
+    ensures steady { L.steady link.old →
+        L.steady link.new × KeptAndNoNetwork result (L.faults link.old) (L.faults link.new) }
+    ensures serving { (held : LogData) (h : StandsFor F.Op.written F.Op.Spell.sound F.floor_of held)
+        → AreSent F.Op.reading F.Op.written F.Op.spelling F.Op.Spell.sound
+        → Begins held machine.old (L.service link.old)
+        → LogServed F.Op.written held h.log result machine.new (L.service link.new) }
 {
     let target = match fetch_target(machine, link) {
         Ok(target) => target,
