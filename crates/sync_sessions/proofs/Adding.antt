@@ -15,9 +15,8 @@ use Rattle.ledger_codec.proofs.Stable.{front_more}
 use Rattle.sync_net.specs.Wire.{Wire, with_sent, wire_received}
 use Rattle.sync_sessions.specs.declared.ending.SessionEnd.{SessionEnd}
 use Rattle.sync_sessions.specs.declared.ending.SessionEnd.TheVariants.{Done, Network, BrokenFrame, PassSpent, OutOfMemory}
-use Rattle.sync_sessions.specs.declared.hearing.Found.{Found}
 use Rattle.sync_sessions.specs.declared.hearing.Found.TheVariants as found
-use Rattle.sync_sessions.specs.Hearing.{wire_after, Since, Heard, Stops, Next, Stepped}
+use Rattle.sync_sessions.specs.Hearing.{wire_after, Since, Heard, Stops}
 use Rattle.sync_sessions.specs.Replying.{IsSent}
 use Rattle.sync_sessions.specs.Steps.{Takes, Receives}
 

@@ -1,4 +1,3 @@
 pub mod Adding
 pub mod Coming
 pub mod Chaining
-pub mod Answering

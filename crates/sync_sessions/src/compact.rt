@@ -41,7 +41,8 @@ impl<F: CompactFamily> CompactServed<F> for Log<F, Sha256Hasher> {
         alloc: Global,
         message: Message<F::Op>,
     ) -> Result<Message<F::Op>, OutOfMemory>
-        ensures answer { IfOk result (λ reply. reply ≡ compact_core sha256 (compact_of sha256 F.Op.spelling self.now) message) }
+        ensures answer { IfOk result (λ reply.
+            reply ≡ compact_core sha256 (compact_of sha256 F.Op.spelling self.now) message) }
         ensures limits { IfOk result (λ reply. MessageFits (λ op. Unit {0}) reply) }
     {
         CompactMode::reply(alloc, self, message)
@@ -71,7 +72,10 @@ fn answer<F: ServedFamily + CompactFamily, DB: CompactServed<F>, L: Link>(
 where
     F::Op: Spell,
     ensures later { L.faults link.old ≤ L.faults link.new }
-    ensures turns { Turns (frame_of (message_written F.Op.written)) (IsCompactReply (DB.CompactSyncable.kept served.now)) KeepsAll NeverSpent result tt message tt (L.wire link.old) (L.wire link.new) (L.faults link.old) (L.faults link.new) }
+    ensures turns { Turns (frame_of (message_written F.Op.written))
+        (IsCompactReply (DB.CompactSyncable.kept served.now)) KeepsAll NeverSpent
+        result tt message tt
+        (L.wire link.old) (L.wire link.new) (L.faults link.old) (L.faults link.new) }
 {
     match served.compact_reply(alloc, message) {
         Ok(reply) => send_message(alloc, link, &reply),
@@ -91,7 +95,8 @@ pub(crate) fn run_compact<
 where
     F::Op: Spell,
     ensures later { L.faults link.old ≤ L.faults link.new }
-    ensures runs { CompactRun F.Op.reading F.Op.written (DB.CompactSyncable.kept served.now) result (L.wire link.old) (L.wire link.new) (L.faults link.old) (L.faults link.new) }
+    ensures runs { CompactRun F.Op.reading F.Op.written (DB.CompactSyncable.kept served.now)
+        result (L.wire link.old) (L.wire link.new) (L.faults link.old) (L.faults link.new) }
 {
     let mut frames = Framer::new(alloc, MAX_MESSAGE_SIZE);
     let mut buffer = [0; BUFFER_SIZE];

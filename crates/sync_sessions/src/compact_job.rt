@@ -70,7 +70,8 @@ where
     /// Answers the messages that come over the link, each as [`sync_compact::CompactMode`] does over the log, until
     /// the link ends or cannot go on, and lets it go. Before each it passes the gate.
     pub fn run<R: Wait>(self, rt: &R) -> SessionEnd
-        ensures { RunsCompact F.Op.reading F.Op.written (DB.CompactSyncable.kept (arc_value self.served)) L.wire L.faults self.link result }
+        ensures { RunsCompact F.Op.reading F.Op.written (DB.CompactSyncable.kept (arc_value self.served))
+            L.wire L.faults self.link result }
     {
         let CompactSession {
             alloc,

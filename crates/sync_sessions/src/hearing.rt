@@ -54,7 +54,8 @@ fn receive<L: Link>(frames: &mut Framer, link: &mut L, buffer: &mut [u8]) -> Res
     requires room { 0 < length buffer.old }
     ensures limit { OnOk result (frames.new.limit ≡ frames.old.limit) }
     ensures later { L.faults link.old ≤ L.faults link.new }
-    ensures receives { Receives result frames.old.bytes frames.new.bytes (L.wire link.old) (L.wire link.new) (L.faults link.old) (L.faults link.new) }
+    ensures receives { Receives result frames.old.bytes frames.new.bytes
+        (L.wire link.old) (L.wire link.new) (L.faults link.old) (L.faults link.new) }
 {
     match link.recv(buffer) {
         Ok(0) => {
@@ -83,7 +84,8 @@ fn step<M: Spell, L: Link>(
     requires room { 0 < length buffer.old }
     ensures limit { OnOk result (frames.new.limit ≡ 10485760) }
     ensures later { L.faults link.old ≤ L.faults link.new }
-    ensures stepped { Stepped (message_of M.reading) (frame_of M.written) result frames.old.bytes frames.new.bytes (L.wire link.old) (L.wire link.new) (L.faults link.old) (L.faults link.new) }
+    ensures stepped { Stepped (message_of M.reading) (frame_of M.written) result frames.old.bytes frames.new.bytes
+        (L.wire link.old) (L.wire link.new) (L.faults link.old) (L.faults link.new) }
 {
     match take_first(alloc, frames) {
         Ok(Found::Sent(message)) => return Ok(Some(message)),
@@ -109,7 +111,8 @@ pub(crate) fn next_message<R: Wait, M: Spell, L: Link>(
     requires room { 0 < length buffer.old }
     ensures limit { OnOk result (frames.new.limit ≡ 10485760) }
     ensures later { L.faults link.old ≤ L.faults link.new }
-    ensures next { Next (message_of M.reading) (frame_of M.written) result frames.old.bytes frames.new.bytes (L.wire link.old) (L.wire link.new) (L.faults link.old) (L.faults link.new) }
+    ensures next { Next (message_of M.reading) (frame_of M.written) result frames.old.bytes frames.new.bytes
+        (L.wire link.old) (L.wire link.new) (L.faults link.old) (L.faults link.new) }
 {
     for _ in rt.forever() {
         match step(alloc, frames, link, buffer) {

@@ -31,7 +31,8 @@ pub(crate) fn send_message<M: Spell, L: Link>(
 ) -> Result<(), SessionEnd>
     requires { M.fits message.now }
     ensures later { L.faults link.old ≤ L.faults link.new }
-    ensures sends { Sends (frame_of M.written) result message.now (L.wire link.old) (L.wire link.new) (L.faults link.old) (L.faults link.new) }
+    ensures sends { Sends (frame_of M.written) result message.now
+        (L.wire link.old) (L.wire link.new) (L.faults link.old) (L.faults link.new) }
 {
     let Ok(frame) = framed(alloc, message) else {
         return Err(SessionEnd::OutOfMemory);

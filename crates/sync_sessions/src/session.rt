@@ -31,7 +31,10 @@ where
     requires { Belongs shared.now.from pass.old }
     ensures belongs { Belongs shared.now.from pass.new }
     ensures later { L.faults link.old ≤ L.faults link.new }
-    ensures turns { Turns (frame_of (message_written F.Op.written)) (RepliedIn F.floor_of shared.now.opening F.Op.spelling) Missed IsSpent result pass.old message pass.new (L.wire link.old) (L.wire link.new) (L.faults link.old) (L.faults link.new) }
+    ensures turns { Turns (frame_of (message_written F.Op.written))
+        (RepliedIn F.floor_of shared.now.opening F.Op.spelling) Missed IsSpent
+        result pass.old message pass.new
+        (L.wire link.old) (L.wire link.new) (L.faults link.old) (L.faults link.new) }
 {
     match shared.serve(rt, alloc, pass, message) {
         Ok(reply) => send_message(alloc, link, &reply),
@@ -56,7 +59,9 @@ where
     requires { Belongs shared.now.from pass.old }
     ensures belongs { Belongs shared.now.from pass.new }
     ensures later { L.faults link.old ≤ L.faults link.new }
-    ensures runs { Session F.Op.reading F.Op.written F.floor_of shared.now.opening F.Op.spelling result pass.old pass.new (L.wire link.old) (L.wire link.new) (L.faults link.old) (L.faults link.new) }
+    ensures runs { Session F.Op.reading F.Op.written F.floor_of shared.now.opening F.Op.spelling
+        result pass.old pass.new
+        (L.wire link.old) (L.wire link.new) (L.faults link.old) (L.faults link.new) }
 {
     let mut frames = Framer::new(alloc, MAX_MESSAGE_SIZE);
     let mut buffer = [0; BUFFER_SIZE];
