@@ -1,3 +1,4 @@
 pub mod Reading
 pub mod Strays
 pub mod Adding
+pub mod Compacts

@@ -1,0 +1,4 @@
+pub mod Taking
+pub mod Sharing
+pub mod Texts
+pub mod Causing
