@@ -1,0 +1,13 @@
+pub mod Streams
+pub mod Parts
+pub mod Blocks
+pub mod Ways
+pub mod Bytes
+pub mod Covers
+pub mod Whole
+pub mod Grown
+pub mod Floors
+pub mod Chains
+pub mod Replays
+pub mod Sequences
+pub mod Digests
