@@ -1,5 +1,5 @@
 -- The causes of faults of a run of `serve`.
-use Rattle.std.proofs.Common.{◌≡◌, ℕ, ◌+◌, ◌≤◌, ◌<◌, ◌==◌, ◌⊎◌, inl, inr, Bool, true, false, not, List, Option, Some, None, Ok, Err, is_some, refl, sym, ap, subst, ◌∙◌, arith, true≢false}
+use Rattle.std.proofs.Common.{◌≡◌, ℕ, ◌≤◌, ◌<◌, ◌==◌, inl, inr, Bool, true, false, not, List, Option, Some, None, Ok, Err, is_some, refl, sym, ap, subst, ◌∙◌, arith, true≢false}
 use Rattle.std.specs.Prelude.{IfSome, length}
 use Rattle.ledger_codec.specs.Causes.{Rose}
 use Rattle.ledger_job.specs.declared.line.Open.{Open}
@@ -7,12 +7,11 @@ use Rattle.ledger_program.specs.Reading.{HeldMore}
 use Rattle.ledger_program.specs.Run.{max_job, status_of}
 use Rattle.ledger_program.specs.declared.outcome.RunFault.{RunFault}
 use Rattle.ledger_program.specs.declared.outcome.RunFault.TheVariants.{Usage, BadJob, JobRead, JobTooLarge, Dial, Follow, Output, OutOfMemory}
-use Rattle.serve_parts.specs.Accounts.{accounts_of}
 use Rattle.serve_parts.specs.declared.form.ServeForm.{ServeForm}
 use Rattle.serve_parts.specs.declared.form.ServedFrom.{ServedFrom}
 use Rattle.serve_parts.specs.declared.form.ServedFrom.TheVariants as source
 use Rattle.ledger_serve.specs.Outcomes.{JobStops, EndsBy}
-use Rattle.ledger_serve.specs.Serving.{IsJob, Offends, ReadFails, ServedAs, Served, Stops, Leaves, Caused, Wrote, lines_for, is_job, reads_job, IsRight, Completes}
+use Rattle.ledger_serve.specs.Serving.{IsJob, Offends, ReadFails, ServedAs, Stops, Leaves, Caused, lines_for, is_job, reads_job, IsRight, Completes}
 
 err_isnt : (accounts : List Open) (line : ℕ) → Ok accounts ≡ Err line → ⊥
 err_isnt accounts line e = cc

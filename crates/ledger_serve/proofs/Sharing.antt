@@ -1,8 +1,8 @@
 -- The passes of a log that is shared.
-use Rattle.std.proofs.Common.{◌≡◌, ℕ, zero, suc, ◌+◌, ◌≤◌, ◌<◌, Bool, true, false, List, [], ◌∷◌, ◌++◌, length, map, Option, Some, None, refl, sym, ap, subst, ◌∙◌, arith}
+use Rattle.std.proofs.Common.{◌≡◌, ℕ, zero, suc, ◌+◌, ◌<◌, Bool, true, false, List, [], ◌∷◌, ◌++◌, length, map, Option, Some, None, refl, sym, ap, subst, ◌∙◌, arith}
 use Rattle.std.specs.List.{All, range_with_len, remove}
-use Rattle.std.specs.Prelude.{IfSome, drop, take, slice_index_or}
-use Rattle.std.proofs.lemmas.List.Elements.{All-map, All-head, All-tail}
+use Rattle.std.specs.Prelude.{IfSome, slice_index_or}
+use Rattle.std.proofs.lemmas.List.Elements.{All-map, All-tail}
 use Rattle.std.proofs.lemmas.List.FromFn.{length-map-range_with_len, map-range_with_len_more}
 use Rattle.ledger_log.specs.View.{LogView}
 use Rattle.sync_shared.specs.Replies.{Belongs, Made}
@@ -12,7 +12,7 @@ use Rattle.sync_shared.specs.declared.event.EventOutcome.{EventOutcome}
 use Rattle.turn_lock.specs.declared.entry.Entry.{Entry}
 use Rattle.turn_lock.specs.History.{calls}
 use Rattle.turn_lock.specs.Passes.{Origin, PassValue, fresh}
-use Rattle.ledger_serve.specs.Growing.{turns, Appended, Grown, SetsAside, batch_for, seed_for}
+use Rattle.ledger_serve.specs.Growing.{turns, Appended, Grown, SetsAside, batch_for}
 use Rattle.ledger_serve.specs.declared.growing.Growth.{Growth}
 
 module _ {Op : Type 0} (floor_of : Op → Option ℕ) (opening : LogView Op) where

@@ -1,10 +1,8 @@
 -- What went out of the lines of `serve`, and of a fault's line behind them.
-use Rattle.std.proofs.Common.{◌≡◌, ℕ, zero, suc, ◌≤◌, inl, inr, Bool, List, [], ◌∷◌, ◌++◌, length, take, Option, Some, None, Result, Ok, Err, refl, sym, ap, subst, ◌∙◌, append-nil, arith}
+use Rattle.std.proofs.Common.{◌≡◌, ℕ, zero, suc, ◌≤◌, inl, inr, Bool, List, [], ◌∷◌, ◌++◌, take, Option, Some, None, Result, Ok, Err, refl, sym, ap, subst, append-nil}
 use Rattle.std.specs.Prelude.{IfErr, OnOk, IsOk}
-use Rattle.std.proofs.Math.Seq.{take-length}
 use Rattle.std.proofs.KnownBytes.{Appends-trans}
 use Rattle.std.specs.Io.KnownBytes.{Appends}
-use Rattle.ledger_codec.specs.Causes.{Rose}
 use Rattle.ledger_codec.specs.declared.sink.SinkError.{SinkError}
 use Rattle.ledger_codec.specs.declared.sink.SinkError.TheVariants as sink
 use Rattle.ledger_program.proofs.Pieces.{rose_before}
@@ -16,7 +14,7 @@ use Rattle.ledger_program.specs.declared.outcome.RunFault.TheVariants.{Usage, Ba
 use Rattle.ledger_serve.specs.Ending.{FinishFails}
 use Rattle.ledger_serve.specs.Lines.{listening, sessions_line, both_lines, fault_of, WriteFails}
 use Rattle.ledger_serve.specs.Links.{Took, StartFails}
-use Rattle.ledger_serve.specs.Serving.{ReadFails, Served, Stops, IsBefore, Leaves, Wrote}
+use Rattle.ledger_serve.specs.Serving.{ReadFails, Served, Stops, Leaves, Wrote}
 
 -- a front of a text is one of a longer text
 front_at : (n : ℕ) (p q : List ℕ) → (m : ℕ) × (take m (p ++ q) ≡ take n p)

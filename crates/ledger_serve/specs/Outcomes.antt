@@ -3,9 +3,9 @@ use Rattle.std.specs.Prelude.{◌≡◌, ℕ, Bool, List, Option, Some, None}
 use Rattle.ledger_codec.specs.Causes.{Rose}
 use Rattle.ledger_program.specs.Run.{status_of}
 use Rattle.ledger_program.specs.declared.outcome.RunFault.{RunFault}
-use Rattle.ledger_program.specs.declared.outcome.RunFault.TheVariants.{Dial, Output, OutOfMemory}
+use Rattle.ledger_program.specs.declared.outcome.RunFault.TheVariants.{Dial, Output}
 use Rattle.serve_parts.specs.declared.form.ServeForm.{ServeForm}
-use Rattle.ledger_serve.specs.Serving.{ReadFails, ServedAs, Stops, Caused, Wrote, lines_for, line_in}
+use Rattle.ledger_serve.specs.Serving.{ReadFails, ServedAs, Caused, Wrote, lines_for, line_in}
 
 -- why a job wasn't served to the end: its log wasn't, or no job was read
 abbrev pub JobStops : Option (List ℕ) → ℕ → ℕ → ℕ → ℕ → ℕ → ℕ → RunFault → Type 0

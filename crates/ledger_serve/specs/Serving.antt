@@ -5,7 +5,7 @@ use Rattle.ledger_codec.specs.Causes.{Rose}
 use Rattle.ledger_job.specs.declared.line.Open.{Open}
 use Rattle.ledger_program.specs.ErrorLines.{line_of}
 use Rattle.ledger_program.specs.Reading.{HeldMore}
-use Rattle.ledger_program.specs.Run.{max_job, LineWent, status_of}
+use Rattle.ledger_program.specs.Run.{max_job, LineWent}
 use Rattle.ledger_program.specs.declared.outcome.RunFault.{RunFault}
 use Rattle.ledger_program.specs.declared.outcome.RunFault.TheVariants.{Usage, BadJob, JobRead, JobTooLarge, Dial, Output, OutOfMemory}
 use Rattle.serve_parts.specs.Accounts.{accounts_of}

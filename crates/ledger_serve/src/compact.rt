@@ -140,8 +140,10 @@ where
     F::Op: Spell + Send + Sync + 'static,
     requires few { count ≤ 8 }
     requires fresh { Sp.started spawner.old ≡ 0 }
-    ensures served { OnOk result (Served count (Li.coming listener.old) (Li.coming listener.new) (Sp.started spawner.new) (Sp.joined spawner.new) (K.written out.old) (K.written out.new)) }
-    ensures stops { IfErr result (Stops (Li.faults listener.old) (Li.faults listener.new) (K.faults out.old) (K.faults out.new)) }
+    ensures served { OnOk result (Served count (Li.coming listener.old) (Li.coming listener.new)
+        (Sp.started spawner.new) (Sp.joined spawner.new) (K.written out.old) (K.written out.new)) }
+    ensures stops { IfErr result (Stops (Li.faults listener.old) (Li.faults listener.new) (K.faults out.old)
+        (K.faults out.new)) }
     ensures leaves { IfErr result (Leaves (both_lines count) (K.written out.old) (K.written out.new)) }
     ensures later { K.faults out.old ≤ K.faults out.new }
 {

@@ -81,10 +81,12 @@ where
     requires count { common.now.growth.count ≤ 9 }
     requires few { number < 8 }
     requires number { Sp.started spawner.old ≡ number }
-    requires grown { IfSome own.old (Grown F.floor_of F.commit_of F.test_of F.test_commit_of (arc_value common.now.log).from common.now.growth number) }
+    requires grown { IfSome own.old (Grown F.floor_of F.commit_of F.test_of F.test_commit_of
+        (arc_value common.now.log).from common.now.growth number) }
     ensures took { OnOk result (Took 1 (Li.coming listener.old) (Li.coming listener.new)) }
     ensures started { OnOk result (Sp.started spawner.new ≡ number + 1) }
-    ensures grown { OnOk result (IfSome own.new (Grown F.floor_of F.commit_of F.test_of F.test_commit_of (arc_value common.now.log).from common.now.growth (number + 1))) }
+    ensures grown { OnOk result (IfSome own.new (Grown F.floor_of F.commit_of F.test_of F.test_commit_of
+        (arc_value common.now.log).from common.now.growth (number + 1))) }
     ensures fails { IfErr result (StartFails (Li.faults listener.old) (Li.faults listener.new)) }
     ensures later { Li.faults listener.old ≤ Li.faults listener.new }
 {
@@ -137,10 +139,12 @@ where
     requires batch { common.now.growth.count ≤ 9 }
     requires few { count ≤ 8 }
     requires fresh { Sp.started spawner.old ≡ 0 }
-    requires grown { IfSome own.old (Grown F.floor_of F.commit_of F.test_of F.test_commit_of (arc_value common.now.log).from common.now.growth 0) }
+    requires grown { IfSome own.old (Grown F.floor_of F.commit_of F.test_of F.test_commit_of
+        (arc_value common.now.log).from common.now.growth 0) }
     ensures took { OnOk result (Took count (Li.coming listener.old) (Li.coming listener.new)) }
     ensures started { OnOk result (Sp.started spawner.new ≡ count) }
-    ensures grown { OnOk result (IfSome own.new (Grown F.floor_of F.commit_of F.test_of F.test_commit_of (arc_value common.now.log).from common.now.growth count)) }
+    ensures grown { OnOk result (IfSome own.new (Grown F.floor_of F.commit_of F.test_of F.test_commit_of
+        (arc_value common.now.log).from common.now.growth count)) }
     ensures fails { IfErr result (StartFails (Li.faults listener.old) (Li.faults listener.new)) }
     ensures later { Li.faults listener.old ≤ Li.faults listener.new }
 {
@@ -181,9 +185,12 @@ where
     requires passes { length passes.old.items ≡ count }
     requires few { count ≤ 8 }
     requires fresh { Sp.started spawner.old ≡ 0 }
-    requires grown { IfSome own.old (Grown F.floor_of F.commit_of F.test_of F.test_commit_of (arc_value common.now.log).from common.now.growth 0) }
-    ensures served { OnOk result (Served count (Li.coming listener.old) (Li.coming listener.new) (Sp.started spawner.new) (Sp.joined spawner.new) (K.written out.old) (K.written out.new)) }
-    ensures stops { IfErr result (Stops (Li.faults listener.old) (Li.faults listener.new) (K.faults out.old) (K.faults out.new)) }
+    requires grown { IfSome own.old (Grown F.floor_of F.commit_of F.test_of F.test_commit_of
+        (arc_value common.now.log).from common.now.growth 0) }
+    ensures served { OnOk result (Served count (Li.coming listener.old) (Li.coming listener.new)
+        (Sp.started spawner.new) (Sp.joined spawner.new) (K.written out.old) (K.written out.new)) }
+    ensures stops { IfErr result (Stops (Li.faults listener.old) (Li.faults listener.new) (K.faults out.old)
+        (K.faults out.new)) }
     ensures leaves { IfErr result (Leaves (both_lines count) (K.written out.old) (K.written out.new)) }
     ensures later { K.faults out.old ≤ K.faults out.new }
 {
@@ -268,8 +275,10 @@ where
     F::Op: Spell + Send + Sync + 'static,
     requires form { Sound form.now }
     requires fresh { Sp.started spawner.old ≡ 0 }
-    ensures served { OnOk result (Served form.now.connections (Li.coming listener.old) (Li.coming listener.new) (Sp.started spawner.new) (Sp.joined spawner.new) (K.written out.old) (K.written out.new)) }
-    ensures stops { IfErr result (Stops (Li.faults listener.old) (Li.faults listener.new) (K.faults out.old) (K.faults out.new)) }
+    ensures served { OnOk result (Served form.now.connections (Li.coming listener.old) (Li.coming listener.new)
+        (Sp.started spawner.new) (Sp.joined spawner.new) (K.written out.old) (K.written out.new)) }
+    ensures stops { IfErr result (Stops (Li.faults listener.old) (Li.faults listener.new) (K.faults out.old)
+        (K.faults out.new)) }
     ensures leaves { IfErr result (Leaves (both_lines form.now.connections) (K.written out.old) (K.written out.new)) }
     ensures later { K.faults out.old ≤ K.faults out.new }
 {

@@ -22,7 +22,8 @@ fn fault_of(fault: SinkError) -> RunFault
 #[tactic(auto, using(crate::proofs::Texts::write_fails))]
 pub(crate) fn write_listening<K: Sink>(out: &mut K) -> Result<(), RunFault>
     ensures wrote { OnOk result (Appends (K.written out.old) (K.written out.new) listening) }
-    ensures fails { IfErr result (WriteFails listening (K.written out.old) (K.written out.new) (K.faults out.old) (K.faults out.new)) }
+    ensures fails { IfErr result (WriteFails listening (K.written out.old) (K.written out.new) (K.faults out.old)
+        (K.faults out.new)) }
     ensures later { K.faults out.old ≤ K.faults out.new }
 {
     match write_all(out, b"listening\n") {
@@ -51,7 +52,8 @@ pub(crate) fn write_sessions<Sp: Spawner, K: Sink>(
     requires started { Sp.started spawner.now ≡ count }
     requires joined { Sp.joined spawner.now ≡ count }
     ensures wrote { OnOk result (Appends (K.written out.old) (K.written out.new) (sessions_line count)) }
-    ensures fails { IfErr result (WriteFails (sessions_line count) (K.written out.old) (K.written out.new) (K.faults out.old) (K.faults out.new)) }
+    ensures fails { IfErr result (WriteFails (sessions_line count) (K.written out.old) (K.written out.new)
+        (K.faults out.old) (K.faults out.new)) }
     ensures later { K.faults out.old ≤ K.faults out.new }
 {
     match write_count(out, count) {

@@ -34,7 +34,9 @@ fn log_of_job<S: Source>(
     alloc: Global,
     job: &mut S,
 ) -> Result<Log<AnyFamily, Sha256Hasher>, RunFault>
-    ensures log { IfOk result (λ log. (accounts : Items Opened) × (log ≡ record { front = 0; pinned = []; ops = served accounts }) × IfSome (S.left job.old) (λ text. IsJob text accounts)) }
+    ensures log { IfOk result (λ log. (accounts : Items Opened) ×
+        (log ≡ record { front = 0; pinned = []; ops = served accounts }) × IfSome (S.left job.old)
+        (λ text. IsJob text accounts)) }
     ensures fails { IfErr result (ReadFails (S.left job.old) (S.faults job.old) (S.faults job.new)) }
 {
     let accounts = match read_accounts(alloc, job) {
@@ -69,8 +71,10 @@ fn serve_job<
     requires form { Sound form.now }
     requires fresh { Sp.started spawner.old ≡ 0 }
     ensures job { OnOk result (IfSome (S.left job.old) (λ text. (accounts : Items Opened) × IsJob text accounts)) }
-    ensures served { OnOk result (Served form.now.connections (Li.coming listener.old) (Li.coming listener.new) (Sp.started spawner.new) (Sp.joined spawner.new) (K.written out.old) (K.written out.new)) }
-    ensures stops { IfErr result (JobStops (S.left job.old) (S.faults job.old) (S.faults job.new) (Li.faults listener.old) (Li.faults listener.new) (K.faults out.old) (K.faults out.new)) }
+    ensures served { OnOk result (Served form.now.connections (Li.coming listener.old) (Li.coming listener.new)
+        (Sp.started spawner.new) (Sp.joined spawner.new) (K.written out.old) (K.written out.new)) }
+    ensures stops { IfErr result (JobStops (S.left job.old) (S.faults job.old) (S.faults job.new)
+        (Li.faults listener.old) (Li.faults listener.new) (K.faults out.old) (K.faults out.new)) }
     ensures leaves { IfErr result (Leaves (both_lines form.now.connections) (K.written out.old) (K.written out.new)) }
     ensures later { K.faults out.old ≤ K.faults out.new }
 {
@@ -106,8 +110,11 @@ fn serve_asked<
     requires form { Sound form.now }
     requires compact { form.now.mode ≡ Compact → is_compact_family form.now.family ≡ true }
     requires fresh { Sp.started spawner.old ≡ 0 }
-    ensures served { OnOk result (ServedAs (Some form.now) (S.left job.old) (Li.coming listener.old) (Li.coming listener.new) (Sp.started spawner.new) (Sp.joined spawner.new) (K.written out.old) (K.written out.new)) }
-    ensures caused { IfErr result (Caused (Some form.now) (S.left job.old) (S.faults job.old) (S.faults job.new) (Li.faults listener.old) (Li.faults listener.new) (K.faults out.old) (K.faults out.new)) }
+    ensures served { OnOk result (ServedAs (Some form.now) (S.left job.old) (Li.coming listener.old)
+        (Li.coming listener.new) (Sp.started spawner.new) (Sp.joined spawner.new) (K.written out.old)
+        (K.written out.new)) }
+    ensures caused { IfErr result (Caused (Some form.now) (S.left job.old) (S.faults job.old) (S.faults job.new)
+        (Li.faults listener.old) (Li.faults listener.new) (K.faults out.old) (K.faults out.new)) }
     ensures leaves { IfErr result (Leaves (both_lines form.now.connections) (K.written out.old) (K.written out.new)) }
     ensures later { K.faults out.old ≤ K.faults out.new }
     ensures unread { reads_job (Some form.now) ≡ false → job.new ≡ job.old }
@@ -144,9 +151,13 @@ fn serve_words<
     out: &mut K,
 ) -> Result<(), RunFault>
     requires fresh { Sp.started spawner.old ≡ 0 }
-    ensures served { OnOk result (ServedAs (form_of (map string_bytes words.now)) (S.left job.old) (Li.coming listener.old) (Li.coming listener.new) (Sp.started spawner.new) (Sp.joined spawner.new) (K.written out.old) (K.written out.new)) }
-    ensures caused { IfErr result (Caused (form_of (map string_bytes words.now)) (S.left job.old) (S.faults job.old) (S.faults job.new) (Li.faults listener.old) (Li.faults listener.new) (K.faults out.old) (K.faults out.new)) }
-    ensures leaves { IfErr result (Leaves (lines_for (form_of (map string_bytes words.now))) (K.written out.old) (K.written out.new)) }
+    ensures served { OnOk result (ServedAs (form_of (map string_bytes words.now)) (S.left job.old)
+        (Li.coming listener.old) (Li.coming listener.new) (Sp.started spawner.new) (Sp.joined spawner.new)
+        (K.written out.old) (K.written out.new)) }
+    ensures caused { IfErr result (Caused (form_of (map string_bytes words.now)) (S.left job.old) (S.faults job.old)
+        (S.faults job.new) (Li.faults listener.old) (Li.faults listener.new) (K.faults out.old) (K.faults out.new)) }
+    ensures leaves { IfErr result (Leaves (lines_for (form_of (map string_bytes words.now))) (K.written out.old)
+        (K.written out.new)) }
     ensures later { K.faults out.old ≤ K.faults out.new }
     ensures unread { reads_job (form_of (map string_bytes words.now)) ≡ false → job.new ≡ job.old }
 {
@@ -174,7 +185,8 @@ fn refused<K: Sink>(fault: RunFault, out: &mut K) -> ServeOutcome
     ensures status { result.status ≡ status_of (Some fault) }
     ensures line { result.line ≡ line_in (Some fault) }
     ensures front { AppendsFront (K.written out.old) (K.written out.new) (line_of fault) }
-    ensures whole { LineWent K.grows (K.faults out.old) (K.faults out.new) (Appends (K.written out.old) (K.written out.new) (line_of fault)) }
+    ensures whole { LineWent K.grows (K.faults out.old) (K.faults out.new)
+        (Appends (K.written out.old) (K.written out.new) (line_of fault)) }
     ensures later { K.faults out.old ≤ K.faults out.new }
 {
     write_line(&fault, out);
@@ -204,7 +216,10 @@ fn act<
     out: &mut K,
 ) -> ServeOutcome
     requires { Sp.started spawner.old ≡ 0 }
-    ensures ends { Ends (form_of (map string_bytes words.now)) (S.left job.old) (S.faults job.old) (S.faults job.new) (Li.faults listener.old) (Li.faults listener.new) (Li.coming listener.old) (Li.coming listener.new) (Sp.started spawner.new) (Sp.joined spawner.new) K.grows (K.written out.old) (K.written out.new) (K.faults out.old) (K.faults out.new) result.status result.line }
+    ensures ends { Ends (form_of (map string_bytes words.now)) (S.left job.old) (S.faults job.old) (S.faults job.new)
+        (Li.faults listener.old) (Li.faults listener.new) (Li.coming listener.old) (Li.coming listener.new)
+        (Sp.started spawner.new) (Sp.joined spawner.new) K.grows (K.written out.old) (K.written out.new)
+        (K.faults out.old) (K.faults out.new) result.status result.line }
     ensures unread { reads_job (form_of (map string_bytes words.now)) ≡ false → job.new ≡ job.old }
 {
     match serve_words(rt, alloc, words, job, listener, spawner, gate, out) {
@@ -239,9 +254,14 @@ pub fn run_serve<
     out: &mut K,
 ) -> ServeOutcome
     requires { Sp.started spawner.old ≡ 0 }
-    ensures ends { Ends (form_of (map string_bytes words.now)) (S.left job.old) (S.faults job.old) (S.faults job.new) (Li.faults listener.old) (Li.faults listener.new) (Li.coming listener.old) (Li.coming listener.new) (Sp.started spawner.new) (Sp.joined spawner.new) K.grows (K.written out.old) (K.written out.new) (K.faults out.old) (K.faults out.new) result.status result.line }
+    ensures ends { Ends (form_of (map string_bytes words.now)) (S.left job.old) (S.faults job.old) (S.faults job.new)
+        (Li.faults listener.old) (Li.faults listener.new) (Li.coming listener.old) (Li.coming listener.new)
+        (Sp.started spawner.new) (Sp.joined spawner.new) K.grows (K.written out.old) (K.written out.new)
+        (K.faults out.old) (K.faults out.new) result.status result.line }
     ensures usage { (result.status == 2) ≡ not (is_some (form_of (map string_bytes words.now))) }
-    ensures complete { Completes (form_of (map string_bytes words.now)) (S.left job.old) (S.faults job.old) (S.faults job.new) (Li.faults listener.old) (Li.faults listener.new) (K.faults out.old) (K.faults out.new) result.status }
+    ensures complete { Completes (form_of (map string_bytes words.now)) (S.left job.old) (S.faults job.old)
+        (S.faults job.new) (Li.faults listener.old) (Li.faults listener.new) (K.faults out.old) (K.faults out.new)
+        result.status }
     ensures unread { reads_job (form_of (map string_bytes words.now)) ≡ false → job.new ≡ job.old }
 {
     act(rt, alloc, words, job, listener, spawner, gate, out)

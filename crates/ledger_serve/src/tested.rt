@@ -33,7 +33,8 @@ fn log_of<F: TestedFamily>(
     form: &ServeForm,
 ) -> Result<Log<F, Sha256Hasher>, RunFault>
     requires { Sound form.now }
-    ensures log { IfOk result (λ log. log ≡ test_log F.floor_of F.commit_of F.test_of F.test_commit_of F.added_of form.now.initial form.now.seed) }
+    ensures log { IfOk result (λ log. log ≡ test_log F.floor_of F.commit_of F.test_of F.test_commit_of F.added_of
+        form.now.initial form.now.seed) }
     ensures fails { IfErr result (λ fault. fault ≡ memory_wanting) }
 {
     match test_log::<F>(alloc, form.initial as usize, form.seed) {
@@ -48,7 +49,9 @@ fn compact_log_of<F: TestedFamily + CompactExampleFamily>(
     form: &ServeForm,
 ) -> Result<CompactLog<F, Sha256Hasher>, RunFault>
     requires { Sound form.now }
-    ensures log { IfOk result (λ log. compact_of sha256 F.Op.spelling (test_log F.floor_of F.commit_of F.test_of F.test_commit_of F.added_of form.now.initial form.now.seed) ≡ Some log) }
+    ensures log { IfOk result (λ log. compact_of sha256 F.Op.spelling
+        (test_log F.floor_of F.commit_of F.test_of F.test_commit_of F.added_of form.now.initial form.now.seed) ≡ Some
+        log) }
     ensures fails { IfErr result (λ fault. fault ≡ memory_wanting) }
 {
     match compact_test_log::<F>(alloc, form.initial as usize, form.seed) {
@@ -79,8 +82,10 @@ where
     F::Op: Spell + Send + Sync + 'static,
     requires form { Sound form.now }
     requires fresh { Sp.started spawner.old ≡ 0 }
-    ensures served { OnOk result (Served form.now.connections (Li.coming listener.old) (Li.coming listener.new) (Sp.started spawner.new) (Sp.joined spawner.new) (K.written out.old) (K.written out.new)) }
-    ensures stops { IfErr result (Stops (Li.faults listener.old) (Li.faults listener.new) (K.faults out.old) (K.faults out.new)) }
+    ensures served { OnOk result (Served form.now.connections (Li.coming listener.old) (Li.coming listener.new)
+        (Sp.started spawner.new) (Sp.joined spawner.new) (K.written out.old) (K.written out.new)) }
+    ensures stops { IfErr result (Stops (Li.faults listener.old) (Li.faults listener.new) (K.faults out.old)
+        (K.faults out.new)) }
     ensures leaves { IfErr result (Leaves (both_lines form.now.connections) (K.written out.old) (K.written out.new)) }
     ensures later { K.faults out.old ≤ K.faults out.new }
 {
@@ -108,8 +113,10 @@ fn serve_family<
 ) -> Result<(), RunFault>
     requires form { Sound form.now }
     requires fresh { Sp.started spawner.old ≡ 0 }
-    ensures served { OnOk result (Served form.now.connections (Li.coming listener.old) (Li.coming listener.new) (Sp.started spawner.new) (Sp.joined spawner.new) (K.written out.old) (K.written out.new)) }
-    ensures stops { IfErr result (Stops (Li.faults listener.old) (Li.faults listener.new) (K.faults out.old) (K.faults out.new)) }
+    ensures served { OnOk result (Served form.now.connections (Li.coming listener.old) (Li.coming listener.new)
+        (Sp.started spawner.new) (Sp.joined spawner.new) (K.written out.old) (K.written out.new)) }
+    ensures stops { IfErr result (Stops (Li.faults listener.old) (Li.faults listener.new) (K.faults out.old)
+        (K.faults out.new)) }
     ensures leaves { IfErr result (Leaves (both_lines form.now.connections) (K.written out.old) (K.written out.new)) }
     ensures later { K.faults out.old ≤ K.faults out.new }
 {
@@ -151,8 +158,10 @@ where
     F::Op: Spell + Send + Sync + 'static,
     requires form { Sound form.now }
     requires fresh { Sp.started spawner.old ≡ 0 }
-    ensures served { OnOk result (Served form.now.connections (Li.coming listener.old) (Li.coming listener.new) (Sp.started spawner.new) (Sp.joined spawner.new) (K.written out.old) (K.written out.new)) }
-    ensures stops { IfErr result (Stops (Li.faults listener.old) (Li.faults listener.new) (K.faults out.old) (K.faults out.new)) }
+    ensures served { OnOk result (Served form.now.connections (Li.coming listener.old) (Li.coming listener.new)
+        (Sp.started spawner.new) (Sp.joined spawner.new) (K.written out.old) (K.written out.new)) }
+    ensures stops { IfErr result (Stops (Li.faults listener.old) (Li.faults listener.new) (K.faults out.old)
+        (K.faults out.new)) }
     ensures leaves { IfErr result (Leaves (both_lines form.now.connections) (K.written out.old) (K.written out.new)) }
     ensures later { K.faults out.old ≤ K.faults out.new }
 {
@@ -205,8 +214,10 @@ fn serve_compact_family<
     requires compact { is_compact_family form.now.family ≡ true }
     requires form { Sound form.now }
     requires fresh { Sp.started spawner.old ≡ 0 }
-    ensures served { OnOk result (Served form.now.connections (Li.coming listener.old) (Li.coming listener.new) (Sp.started spawner.new) (Sp.joined spawner.new) (K.written out.old) (K.written out.new)) }
-    ensures stops { IfErr result (Stops (Li.faults listener.old) (Li.faults listener.new) (K.faults out.old) (K.faults out.new)) }
+    ensures served { OnOk result (Served form.now.connections (Li.coming listener.old) (Li.coming listener.new)
+        (Sp.started spawner.new) (Sp.joined spawner.new) (K.written out.old) (K.written out.new)) }
+    ensures stops { IfErr result (Stops (Li.faults listener.old) (Li.faults listener.new) (K.faults out.old)
+        (K.faults out.new)) }
     ensures leaves { IfErr result (Leaves (both_lines form.now.connections) (K.written out.old) (K.written out.new)) }
     ensures later { K.faults out.old ≤ K.faults out.new }
 {
@@ -240,8 +251,10 @@ pub(crate) fn serve_tested<
     requires form { Sound form.now }
     requires compact { form.now.mode ≡ Compact → is_compact_family form.now.family ≡ true }
     requires fresh { Sp.started spawner.old ≡ 0 }
-    ensures served { OnOk result (Served form.now.connections (Li.coming listener.old) (Li.coming listener.new) (Sp.started spawner.new) (Sp.joined spawner.new) (K.written out.old) (K.written out.new)) }
-    ensures stops { IfErr result (Stops (Li.faults listener.old) (Li.faults listener.new) (K.faults out.old) (K.faults out.new)) }
+    ensures served { OnOk result (Served form.now.connections (Li.coming listener.old) (Li.coming listener.new)
+        (Sp.started spawner.new) (Sp.joined spawner.new) (K.written out.old) (K.written out.new)) }
+    ensures stops { IfErr result (Stops (Li.faults listener.old) (Li.faults listener.new) (K.faults out.old)
+        (K.faults out.new)) }
     ensures leaves { IfErr result (Leaves (both_lines form.now.connections) (K.written out.old) (K.written out.new)) }
     ensures later { K.faults out.old ≤ K.faults out.new }
 {
