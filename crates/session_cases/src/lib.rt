@@ -1,0 +1,5 @@
+//! Worked sessions, as tests: what they answer and how they end.
+#![tactic(auto)]
+
+#[cfg(test)]
+mod tests;
