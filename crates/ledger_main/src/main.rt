@@ -1,24 +1,27 @@
-//! The program: hands its words, standard input, a dialer over TCP and standard output to the calls of
-//! `ledger_program`, which say what they answer, and ends with the status of the outcome.
+//! The program: picks the call by the first word, hands it the words, standard input, the network and standard
+//! output, and ends with the status of the outcome.
+//!
+//! ```text
+//!   local, follow ADDRESS --> following   |   sync ADDRESS --> syncing
+//!   generate S A T ---------> generating  |   serve ---------> serving
+//! ```
+//!
+//! Each of these modules has one function over any dialer, listener, source and sink, whose contract says what the
+//! outcome's call says of it. Words that begin otherwise, or none, go to `following`, which answers `error usage`.
 #![tactic(auto)]
 
-ghost use Rattle.std.specs.Prelude.{◌≡◌, ◌==◌, Option, Some, None, not, map, is_some, IfSome, string_bytes};
-ghost use Rattle.std.specs.Process.{exit_status};
-ghost use Rattle.ledger_program.specs.Forms.{form_of};
-ghost use Rattle.ledger_program.specs.Peer.{link_over};
-ghost use Rattle.ledger_program.specs.Run.{Caused, Completes, status_of};
-ghost use Rattle.ledger_program.specs.declared.outcome.RunFault.{RunFault};
+mod following;
+mod generating;
+mod serving;
+mod syncing;
 
-use ledger_codec::{Reading, Sink, Source, Writing};
-use ledger_program::{run, starved};
-use std::alloc::{AllocError, Global};
+use ledger_codec::{Reading, Writing};
+use ledger_program::starved;
+use std::alloc::AllocError;
 use std::process::ExitCode;
-use std::random::RandomSource;
 use std::rt::Env;
-use std::thread::Threads;
 use std::{env, io};
 use sync_dial::TcpDialer;
-use sync_net::Dialer;
 
 #[cfg(test)]
 mod tests;
@@ -37,26 +40,12 @@ fn words<R: Env + AllocGlobal>(rt: &R) -> Result<Vec<String>, AllocError> {
     Ok(words)
 }
 
-/// Does what the words say, and ends with the status of the outcome.
-fn ended<R: RandomSource + Threads + Sync, S: Source, D: Dialer, K: Sink>(
-    rt: &R,
-    alloc: Global,
-    words: &[String],
-    job: &mut S,
-    dialer: &mut D,
-    out: &mut K,
-) -> ExitCode
-    ensures usage { (exit_status result == 2) ≡ not (is_some (form_of (map string_bytes words.now))) }
-    ensures complete { Completes (form_of (map string_bytes words.now)) (S.left job.old) (S.faults job.old) (S.faults job.new) (K.faults out.old) (K.faults out.new)
-        (D.dials dialer.old) (D.dials dialer.new)
-        (link_over (D.service dialer.old) (D.wire dialer.old) (D.wire dialer.new) (D.faults dialer.old) (D.faults dialer.new)) (exit_status result) }
-    ensures status { (fault : Option RunFault) × (exit_status result ≡ status_of fault)
-        × IfSome fault (Caused (form_of (map string_bytes words.now)) (S.left job.old) (S.faults job.old) (S.faults job.new) (K.faults out.old) (K.faults out.new)
-        (D.dials dialer.old) (D.dials dialer.new)
-        (link_over (D.service dialer.old) (D.wire dialer.old) (D.wire dialer.new) (D.faults dialer.old) (D.faults dialer.new))) }
-{
-    let outcome = run(rt, alloc, words, job, dialer, out);
-    ExitCode::from(outcome.status)
+/// The first of these words, which says what is asked for.
+fn first_word(words: &[String]) -> &str {
+    match words.first() {
+        Some(word) => word.as_str(),
+        None => "",
+    }
 }
 
 fn main(rt: HostRuntime) -> ExitCode {
@@ -67,5 +56,10 @@ fn main(rt: HostRuntime) -> ExitCode {
     };
     let mut job = Reading::new(rt.reader());
     let mut dialer = TcpDialer::new(&rt);
-    ended(&rt, alloc, &words, &mut job, &mut dialer, &mut out)
+    match first_word(&words) {
+        "sync" => syncing::ended(alloc, &words, &mut dialer, &mut out),
+        "generate" => generating::ended(&rt, alloc, &words, &mut out),
+        "serve" => serving::serve(&rt, alloc, &words, &mut job, &mut out),
+        _ => following::ended(&rt, alloc, &words, &mut job, &mut dialer, &mut out),
+    }
 }
