@@ -15,12 +15,15 @@ import tempfile
 from check_docs import TOP, Checks
 
 FIRST = "examples/first.job"
+SERVED = "examples/served.job"
 # What is run of bench/, with work that takes no time.
 BENCHES = {
     "bench/local.py": ["--accounts", "100", "--payments", "100", "--times", "1"],
     "bench/follow.py": ["--accounts", "1000", "--times", "1"],
     "bench/log.py": ["--operations", "4000", "--ranges", "10", "--times", "1"],
     "bench/hostile.py": ["--payments", "100", "--bytes", "1000", "--times", "1"],
+    "bench/sync.py": ["--operations", "1000", "--times", "1"],
+    "bench/serve.py": ["--operations", "1000", "--seconds", "0.2", "--sessions", "1", "2"],
 }
 # Notes its folder and its words, and leaves a program.
 NOTING = """#!/bin/sh
@@ -47,6 +50,23 @@ def check_built(checks):
     checks.hold((done.returncode, done.stdout) == (2, "error usage\n"), f"bin/ledger nothing printed\n{done.stdout}")
     done = run(["bin/ledger", "help"])
     checks.hold(done.returncode == 0 and done.stdout.startswith("bin/ledger local"), "bin/ledger help doesn't help")
+
+
+def check_session(checks):
+    """A server in one process, `sync` and `follow` in others, as README.md shows them."""
+    root = (TOP / "examples/served.out").read_text().split()[-1]
+    with open(TOP / SERVED, "rb") as job:
+        words = ["bin/ledger", "serve", "--source", "job", "--connections", "2"]
+        server = subprocess.Popen(words, cwd=TOP, stdin=job, stdout=subprocess.PIPE, text=True)
+    checks.hold(server.stdout.readline() == "listening\n", "bin/ledger serve doesn't listen")
+    done = run(["bin/ledger", "sync", "127.0.0.1:8080"])
+    printed = f"synced any full\nstart 0\nsize 3\nfloor 0\nroot {root}\n"
+    checks.hold((done.returncode, done.stdout) == (0, printed), f"bin/ledger sync printed\n{done.stdout}")
+    follow_job = f"target {root} 0 3\nbody\npay alice bob 6 0\n"
+    words = ["bin/ledger", "follow", "127.0.0.1:8080"]
+    done = subprocess.run(words, cwd=TOP, input=follow_job, capture_output=True, text=True)
+    checks.hold(done.stdout == (TOP / "examples/first.out").read_text(), f"bin/ledger follow.job printed\n{done.stdout}")
+    checks.hold(server.stdout.read() == "sessions 2\n" and server.wait(30) == 0, "bin/ledger serve doesn't end")
 
 
 def check_unbuilt(checks):
@@ -106,7 +126,7 @@ def check_plots(checks):
 
 def main():
     checks = Checks()
-    for check in (check_built, check_unbuilt, check_build, check_benches, check_plots):
+    for check in (check_built, check_session, check_unbuilt, check_build, check_benches, check_plots):
         check(checks)
     checks.hold(run(["rt", "version"]).returncode == 0, "rt version fails")
     print(f"{checks.passed} passed, {checks.failed} failed")

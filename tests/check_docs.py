@@ -16,6 +16,9 @@ PAGES = [TOP / "README.md", *sorted((TOP / "docs").glob("*.md"))]
 RUN_BY = {
     "bin/ledger local < examples/first.job": "tests/check_commands.py",
     "bin/ledger follow ADDRESS < follow.job": "tests/check_follow.py",
+    "bin/ledger serve --source job --connections 2 < examples/served.job": "tests/check_commands.py",
+    "bin/ledger sync 127.0.0.1:8080": "tests/check_commands.py",
+    "bin/ledger follow 127.0.0.1:8080 < follow.job": "tests/check_commands.py",
     "bin/ledger help": "tests/check_commands.py",
     "bin/ledger build": "tests/check_commands.py",
     "bin/ledger take ../mine ledger_log": "tests/own_repository.py",
