@@ -1,6 +1,9 @@
 //! Worked sessions. The expected digests are those of vectors/replies.py.
 
 mod ends;
+mod kept;
+mod spawned;
+mod started;
 
 use ledger_codec::Digest;
 use ledger_log::{AnyFamily, AnyOp, Log};
