@@ -1,6 +1,7 @@
 //! Worked sessions. The expected digests are those of vectors/replies.py.
 
 mod ends;
+mod gates;
 mod kept;
 mod spawned;
 mod started;
