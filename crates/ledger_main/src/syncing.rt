@@ -1,7 +1,7 @@
 //! `sync`: a database is brought to what a server tells.
 ghost use Rattle.std.specs.Prelude.{◌≡◌, ◌==◌, not, map, is_some, string_bytes};
 ghost use Rattle.std.specs.Process.{exit_status};
-ghost use Rattle.ledger_program.specs.Peer.{link_over};
+ghost use Rattle.ledger_sync.specs.Brought.{link_over};
 ghost use Rattle.ledger_sync.specs.Forms.{form_of};
 ghost use Rattle.sync_program.specs.Run.{Completes, sink_over};
 
