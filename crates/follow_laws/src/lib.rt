@@ -14,6 +14,8 @@
 mod alike;
 mod chained;
 mod replayed;
+#[cfg(test)]
+mod tests;
 
 pub use alike::{Runs, follow_twice};
 pub use chained::follow_report;

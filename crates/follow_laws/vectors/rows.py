@@ -1,0 +1,22 @@
+#!/usr/bin/env python3
+"""The roots of src/tests/rows.rt, by the rules of tests/rules.py."""
+import pathlib
+import sys
+
+sys.path.insert(0, str(pathlib.Path(__file__).resolve().parents[3] / "tests"))
+from rules import be64, commit, root, update  # noqa: E402
+
+
+def key(name):
+    return name.encode().ljust(32, b"\0")
+
+
+def value(balance, nonce):
+    return be64(balance) + be64(nonce) + bytes(16)
+
+
+OPENED = [commit(0), update(key("alice"), value(10, 0)), commit(0)]
+PAID = OPENED + [update(key("alice"), value(4, 1)), update(key("bob"), value(6, 0)), commit(0)]
+
+print("OPENED", root(OPENED).hex())
+print("PAID", root(PAID).hex())
