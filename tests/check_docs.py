@@ -30,6 +30,8 @@ RUN_BY = {
     "python3 bench/follow.py": "tests/check_commands.py",
     "python3 bench/log.py": "tests/check_commands.py",
     "python3 bench/hostile.py": "tests/check_commands.py",
+    "python3 bench/sync.py": "tests/check_commands.py",
+    "python3 bench/serve.py": "tests/check_commands.py",
     "python3 bench/plot.py": "tests/check_commands.py",
 }
 COMMAND = re.compile(r"(?:bin/ledger|rt|python3|git|cp) \S.*")
