@@ -1,3 +1,4 @@
+pub mod Raises
 pub mod Streams
 pub mod Parts
 pub mod Blocks

@@ -1,3 +1,4 @@
 pub mod Alike
 pub mod Chained
+pub mod Raised
 pub mod Replayed
