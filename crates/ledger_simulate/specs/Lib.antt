@@ -1,4 +1,5 @@
 pub mod Answering
+pub mod Built
 pub mod Causes
 pub mod Delays
 pub mod Exercise

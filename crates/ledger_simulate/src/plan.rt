@@ -46,6 +46,8 @@ pub struct PlanBuilder<D: EngineDefinition> {
 }
 
 impl<D: EngineDefinition> PlanBuilder<D> {
+    ghost use Rattle.ledger_simulate.specs.Built.{plan_of};
+
     /// A plan of the engine's participants: seed 0, links of 10 ms with a spread of 5 that lose nothing,
     /// 10 finalizations, no timeout, no storage fault and 1,000,000 events at most.
     pub fn new(alloc: Global, engine: D) -> Result<Self, OutOfMemory>
@@ -201,21 +203,7 @@ impl<D: EngineDefinition> PlanBuilder<D> {
 
     /// The plan, under the first of the seeds.
     pub fn build(self) -> Plan<D>
-        ensures plan { result
-            ≡ record {
-              seed = first_or self.seeds 0;
-              participants = self.setting.participants;
-              link = self.link;
-              engine = self.engine;
-              crashes = self.setting.crashes;
-              required_finalizations = self.required_finalizations;
-              exit_condition = self.exit_condition;
-              timeout = self.timeout;
-              storage_fault = self.storage_fault;
-              finalization_property = self.finalization_property;
-              property = self.property;
-              max_events = self.max_events;
-            } }
+        ensures plan { result ≡ plan_of self }
         ensures runs { Runs result.participants result.crashes }
     {
         let (_seeds, plan) = self.parts();
@@ -225,21 +213,7 @@ impl<D: EngineDefinition> PlanBuilder<D> {
     /// The seeds, and the plan under the first of them.
     pub fn parts(self) -> (List<u64>, Plan<D>)
         ensures seeds { result.0 ≡ self.seeds }
-        ensures plan { result.1
-            ≡ record {
-              seed = first_or self.seeds 0;
-              participants = self.setting.participants;
-              link = self.link;
-              engine = self.engine;
-              crashes = self.setting.crashes;
-              required_finalizations = self.required_finalizations;
-              exit_condition = self.exit_condition;
-              timeout = self.timeout;
-              storage_fault = self.storage_fault;
-              finalization_property = self.finalization_property;
-              property = self.property;
-              max_events = self.max_events;
-            } }
+        ensures plan { result.1 ≡ plan_of self }
         ensures runs { Runs result.1.participants result.1.crashes }
     {
         let PlanBuilder {

@@ -29,7 +29,7 @@ const USUAL: ServeForm = ServeForm {
 };
 
 #[test]
-fn words_are_forms(rt: HostRuntime) {
+fn words_are_forms_of_full_mode(rt: HostRuntime) {
     let cases = [
         ("serve", USUAL),
         (
@@ -52,6 +52,15 @@ fn words_are_forms(rt: HostRuntime) {
                 ..USUAL
             },
         ),
+    ];
+    for (line, form) in cases {
+        assert_eq!(rt; asked(rt.alloc(), line), Some(form), "{line}");
+    }
+}
+
+#[test]
+fn words_are_forms_of_compact_mode(rt: HostRuntime) {
+    let cases = [
         (
             "serve --mode compact --family keyless --storage compact --port 1",
             ServeForm {
