@@ -13,6 +13,7 @@ import sys
 import time
 
 sys.path.insert(0, str(pathlib.Path(__file__).parent))
+from checks import Checks, ran  # noqa: E402
 from peer import Peer, honest  # noqa: E402
 from reference import follow, spelling  # noqa: E402
 from rules import be64, frame, root, varint  # noqa: E402
@@ -56,20 +57,15 @@ def made_job(rng):
     return ops, "\n".join(lines) + "\n"
 
 
-class Checks:
-    def __init__(self, program):
-        self.program, self.passed, self.failed = program, 0, 0
-
+class Followed(Checks):
     def run(self, name, address, job, allowed, status):
         """Runs the program, and looks at what it printed and at its status."""
         started = time.monotonic()
         done = subprocess.run([self.program, "follow", address], input=job.encode(), capture_output=True, timeout=60)
         printed, spent = done.stdout.decode(), time.monotonic() - started
         good = done.returncode == status and printed in allowed and spent < 30
-        self.passed += good
-        self.failed += not good
-        if not good:
-            print(f"{name}: status {done.returncode} in {spent:.1f} s, wanted {status}\n{printed}wanted one of\n{''.join(allowed)}")
+        wanted = f"wanted {status}\n{printed}wanted one of\n{''.join(allowed)}"
+        self.hold(f"{name}: status {done.returncode} in {spent:.1f} s, {wanted}", good)
 
     def serve(self, name, job, reply, allowed, status, piece=None):
         peer = Peer(reply, piece)
@@ -78,12 +74,6 @@ class Checks:
         finally:
             peer.close()
         return peer.requests
-
-    def hold(self, name, holds):
-        self.passed += bool(holds)
-        self.failed += not holds
-        if not holds:
-            print(name)
 
 
 def served_log():
@@ -167,7 +157,7 @@ def check_unread(checks):
         checks.hold(f"job {job!r} asked", not requests)
 
 
-def check_made(checks, count):
+def check_made(checks, count=200):
     """Made jobs over logs that a peer serves whole or in short answers."""
     for seed in range(count):
         rng = random.Random(seed)
@@ -176,15 +166,7 @@ def check_made(checks, count):
         checks.serve(f"seed {seed}", job, honest([spelling(op) for op in ops], most), *follow(job.encode(), ops, most))
 
 
-def main(program):
-    checks, started = Checks(program), time.monotonic()
-    for check in (check_served, check_updates, check_refusals, check_unread):
-        check(checks)
-    check_made(checks, 200)
-    print(f"following took {time.monotonic() - started:.0f} s")
-    print(f"{checks.passed} passed, {checks.failed} failed")
-    return 1 if checks.failed else 0
-
+FUNCTIONS = (check_served, check_updates, check_refusals, check_unread, check_made)
 
 if __name__ == "__main__":
-    sys.exit(main(sys.argv[1]))
+    sys.exit(ran(Followed(sys.argv[1]), "following", FUNCTIONS))

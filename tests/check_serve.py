@@ -15,8 +15,10 @@ import time
 
 HERE = pathlib.Path(__file__).resolve().parent
 sys.path.insert(0, str(HERE))
-sys.path.insert(0, str(HERE.parent / "crates" / "ledger_examples" / "vectors"))
+sys.path += [str(HERE.parent / "crates" / crate / "vectors") for crate in ("ledger_examples", "ledger_generate")]
+from checks import Checks, ran  # noqa: E402
 from families import added, any_tests, commit, fixed_tests  # noqa: E402
+from generated import generated  # noqa: E402
 from peer import number_in  # noqa: E402
 from reference import follow, local, parse, served, spelling  # noqa: E402
 from rules import be64, frame, root, varint  # noqa: E402
@@ -70,16 +72,7 @@ class Server:
         return connection
 
 
-class Checks:
-    def __init__(self, program):
-        self.program, self.passed, self.failed = program, 0, 0
-
-    def hold(self, name, holds):
-        self.passed += bool(holds)
-        self.failed += not holds
-        if not holds:
-            print(name)
-
+class Served(Checks):
     def run(self, words, job=""):
         """What the program prints, and its status."""
         started = time.monotonic()
@@ -223,41 +216,21 @@ def check_words(checks):
         checks.same("a port that is taken", checks.run(["serve", "--port", port]), ("error dial\n", 6))
 
 
-def generated(seed, accounts, transfers):
-    """The job that `generate` makes, as text."""
-    turn = seed % 1_000_000
-    lines = [f"open g{i} {10 * (transfers // accounts + 1)} 0" for i in range(accounts)] + ["body"]
-    for t in range(transfers):
-        i = t % accounts
-        to = (i + 1 + (turn + t) % (accounts - 1)) % accounts
-        lines.append(f"pay g{i} g{to} {1 + (turn + t) % 10} {t // accounts}")
-    return "\n".join(lines) + "\n"
-
-
 def check_generate(checks):
     """Generated jobs, with and without workers: the size and the root of `local` over the same job."""
     for sizes in ((7, 4, 6), (2**64 - 1, 2, 1), (999_999, 5, 333), (12, 300, 1000)):
-        allowed, status = local(generated(*sizes).encode())
-        checks.same(f"the reference of {sizes}", status, 0)
-        wanted = f"generated {sizes[1]} {sizes[2]}\n" + "".join(allowed[0].splitlines(True)[-2:])
+        wanted = generated(*sizes)
         words = ["generate", *map(str, sizes)]
         for more in ([], ["--workers", "1"], ["--workers", "4"], ["--workers", "64"]):
             checks.same(f"{words} {more}", checks.run(words + more), (wanted, 0))
-    job = generated(5, 40, 200)
+    job = generated(5, 40, 200, "job")
     allowed, status = local(job.encode())
     for more in ([], ["--workers", "1"], ["--workers", "3"], ["--workers", "64"]):
         printed, found = checks.run(["local", *more], job)
         checks.hold(f"local {more}", printed in allowed and found == status)
 
 
-def main(program):
-    checks, started = Checks(program), time.monotonic()
-    for check in (check_words, check_row, check_families, check_job, check_growing, check_clients, check_generate):
-        check(checks)
-    print(f"serving took {time.monotonic() - started:.0f} s")
-    print(f"{checks.passed} passed, {checks.failed} failed")
-    return 1 if checks.failed else 0
-
+FUNCTIONS = (check_words, check_row, check_families, check_job, check_growing, check_clients, check_generate)
 
 if __name__ == "__main__":
-    sys.exit(main(sys.argv[1]))
+    sys.exit(ran(Served(sys.argv[1]), "serving", FUNCTIONS))

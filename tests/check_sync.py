@@ -13,6 +13,7 @@ import sys
 import time
 
 sys.path.insert(0, str(pathlib.Path(__file__).parent))
+from checks import Checks, ran  # noqa: E402
 from peer import Peer, number_in  # noqa: E402
 from rules import answer, be64, commit, frame, leaves_of, peaks, proof, root, update, varint  # noqa: E402
 
@@ -66,22 +67,7 @@ def serving(ops, floor, most=2**32):
 class SyncPeer(Peer):
     """The peer of peer.py for requests of every kind, which it hands on as bodies."""
 
-    def session(self, connection):
-        connection.setsockopt(socket.IPPROTO_TCP, socket.TCP_NODELAY, 1)
-        held = b""
-        while data := connection.recv(65536):
-            held += data
-            while held:
-                length, at = number_in(held + b"\0", 0)
-                if len(held) < at + length:
-                    break
-                body, held = held[at : at + length], held[at + length :]
-                self.requests.append(body)
-                out = self.reply(body)
-                sent, goes_on = out if isinstance(out, tuple) else (out, True)
-                self.send(connection, sent)
-                if not goes_on:
-                    return
+    read = bytes
 
 
 def lines(family, mode, ops, floor):
@@ -89,16 +75,7 @@ def lines(family, mode, ops, floor):
     return f"synced {family} {mode}\n{start}size {len(ops)}\nfloor {floor}\nroot {root(ops).hex()}\n"
 
 
-class Checks:
-    def __init__(self, program):
-        self.program, self.passed, self.failed = program, 0, 0
-
-    def hold(self, name, holds):
-        self.passed += bool(holds)
-        self.failed += not holds
-        if not holds:
-            print(name)
-
+class Synced(Checks):
     def run(self, name, words, wanted, status):
         """Runs the program, and looks at what it printed and at its status."""
         started = time.monotonic()
@@ -120,7 +97,7 @@ def words_of(family, mode):
     return ["--family", family, "--mode", mode]
 
 
-def check_made(checks, count):
+def check_made(checks, count=200):
     """Logs of each family, in each mode that it has."""
     for seed in range(count):
         rng = random.Random(seed)
@@ -188,15 +165,7 @@ def check_dials(checks):
     checks.run("no address", [], "error usage\n", 2)
 
 
-def main(program):
-    checks, started = Checks(program), time.monotonic()
-    for check in (check_refusals, check_dials):
-        check(checks)
-    check_made(checks, 200)
-    print(f"syncing took {time.monotonic() - started:.0f} s")
-    print(f"{checks.passed} passed, {checks.failed} failed")
-    return 1 if checks.failed else 0
-
+FUNCTIONS = (check_refusals, check_dials, check_made)
 
 if __name__ == "__main__":
-    sys.exit(main(sys.argv[1]))
+    sys.exit(ran(Synced(sys.argv[1]), "syncing", FUNCTIONS))

@@ -77,7 +77,9 @@ class Indexed:
 
 class Peer:
     """Serves one connection after another. `reply` makes the bytes that go out for a request, in pieces of `piece`
-    bytes where that is given; where it gives None as well the peer hangs up behind them."""
+    bytes where that is given; where it gives None as well the peer hangs up behind them. Requests are read by `read`."""
+
+    read = Request
 
     def __init__(self, reply, piece=None):
         self.reply, self.piece, self.requests = reply, piece, []
@@ -110,7 +112,7 @@ class Peer:
                 length, at = number_in(held + b"\0", 0)
                 if len(held) < at + length:
                     break
-                request, held = Request(held[at : at + length]), held[at + length :]
+                request, held = self.read(held[at : at + length]), held[at + length :]
                 self.requests.append(request)
                 out = self.reply(request)
                 data, goes_on = out if isinstance(out, tuple) else (out, True)
