@@ -40,9 +40,9 @@ fn run<
     ensures ran { Ran (meaning T.changes_of A.eq A.rules A.values)
         (beginning target.now (Ts.answers updates.old) limits.now (L.wire link.old) (L.faults link.old))
         (Ts.answers updates.new) (L.wire link.new) (L.faults link.new) blocks.now result }
-    ensures laws { SessionLaws
-        (beginning target.now (Ts.answers updates.old) limits.now (L.wire link.old) (L.faults link.old)).rules
-        (beginning target.now (Ts.answers updates.old) limits.now (L.wire link.old) (L.faults link.old)).start }
+    ensures laws { SessionLaws (beginning target.now (Ts.answers updates.old) limits.now (L.wire link.old)
+        (L.faults link.old)).rules (beginning target.now (Ts.answers updates.old) limits.now
+        (L.wire link.old) (L.faults link.old)).start }
 {
     match follow(rt, alloc, target, updates, limits, blocks, link, strategy) {
         Ok(report) => {

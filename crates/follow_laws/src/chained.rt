@@ -29,7 +29,8 @@ use sync_server::MemoryLink;
 /// The operation at this place is one that the type has.
 fn see_operation(log: &Log<AnyFamily, Sha256Hasher>, at: u64)
     requires { at < log_size log.now }
-    ensures { (op : AnyOp) → log.now.front ≤ at → slice_get log.now.ops (at - log.now.front) ≡ Some op → IsSoundAny op }
+    ensures { (op : AnyOp) → log.now.front ≤ at → slice_get log.now.ops (at - log.now.front) ≡ Some op
+        → IsSoundAny op }
 {
     let _size = log.size();
     match Location::new(at) {

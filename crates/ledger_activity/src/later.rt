@@ -31,7 +31,8 @@ impl Later {
         ensures active { (ops : Items Op) →
             IsLater self.old ops →
             IfOk result (λ active. active ≡ is_active op.now ops) }
-        ensures met { (ops : Items Op) → IsLater self.old ops → OnOk result (IsLater self.new (op.now ∷ ops)) }
+        ensures met { (ops : Items Op) → IsLater self.old ops
+            → OnOk result (IsLater self.new (op.now ∷ ops)) }
     {
         match op {
             AnyOp::Update(key, _) => Ok(self.keys.insert(*key)?),

@@ -60,7 +60,8 @@ pub(crate) fn state_of<F: Family, H: Hasher>(db: &Log<F, H>) -> State
 
 /// The writes with what the operation writes, if it writes a key.
 fn put_op<F: Family>(writes: &mut Writes, op: &F::Op) -> Result<(), OutOfMemory>
-    ensures { OnOk result (writes.new ≡ option_map_or (λ w. settled (writes.old ++ w ∷ [])) (F.write_of op.now) writes.old) }
+    ensures { OnOk result (writes.new ≡ option_map_or (λ w. settled (writes.old ++ w ∷ []))
+        (F.write_of op.now) writes.old) }
 {
     match F::written_key(op) {
         Some(key) => writes.put(key, F::written_value(op)),
@@ -159,7 +160,8 @@ impl<F: Family> Chain<F> {
 
     /// One ancestor more.
     pub(crate) fn push(&mut self, link: Link<F>) -> Result<(), OutOfMemory>
-        ensures { OnOk result (self.new ≡ record { base = self.old.base; links = self.old.links ++ link ∷ [] }) }
+        ensures { OnOk result
+            (self.new ≡ record { base = self.old.base; links = self.old.links ++ link ∷ [] }) }
     {
         self.links.push(link)?;
         Ok(())

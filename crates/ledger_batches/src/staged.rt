@@ -35,7 +35,9 @@ impl<F: Family> Staged<F> {
 
     /// The batch with these metadata in its commit.
     pub fn with_metadata(self, metadata: Value) -> Staged<F>
-        ensures { result ≡ record { batch = record { chain = self.batch.chain; writes = self.batch.writes; metadata = Some metadata }; keys = self.keys } }
+        ensures { result
+            ≡
+            record { batch = record { chain = self.batch.chain; writes = self.batch.writes; metadata = Some metadata }; keys = self.keys } }
     {
         let Staged { batch, keys } = self;
         Staged {
@@ -67,10 +69,14 @@ impl<F: KeyedFamily> Staged<F> {
         db: &Log<F, H>,
         keys: &[Key],
     ) -> Result<(Range<usize>, Vec<Option<Value>>, Staged<F>), ManagedFault>
-        ensures refusal { MatchOption (stale_read self.batch.chain (state_of H.digest F.Op.spelling db.now)) (IsOkUnless result ManagedFault.OutOfMemory) (λ fault. result ≡ Err fault) }
-        ensures places { IfOk result (λ r. (r.0.start ≡ length self.keys) × (r.0.end ≡ length self.keys + length keys.now)) }
-        ensures values { IfOk result (λ r. r.1.items ≡ map (read F.write_of self.batch.chain self.batch.writes db.now) keys.now) }
-        ensures staged { IfOk result (λ r. r.2 ≡ record { batch = self.batch; keys = self.keys ++ keys.now }) }
+        ensures refusal { MatchOption (stale_read self.batch.chain (state_of H.digest F.Op.spelling db.now))
+            (IsOkUnless result ManagedFault.OutOfMemory) (λ fault. result ≡ Err fault) }
+        ensures places { IfOk result (λ r. (r.0.start ≡ length self.keys)
+            × (r.0.end ≡ length self.keys + length keys.now)) }
+        ensures values { IfOk result (λ r. r.1.items ≡ map
+            (read F.write_of self.batch.chain self.batch.writes db.now) keys.now) }
+        ensures staged { IfOk result
+            (λ r. r.2 ≡ record { batch = self.batch; keys = self.keys ++ keys.now }) }
     {
         let values = self.batch.get_many(db, keys)?;
         let start = self.keys.len();

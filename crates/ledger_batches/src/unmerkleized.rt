@@ -43,7 +43,9 @@ impl<F: Family> Unmerkleized<F> {
         alloc: Global,
         db: &Log<F, H>,
     ) -> Unmerkleized<F>
-        ensures { result ≡ record { chain = record { base = state_of H.digest F.Op.spelling db.now; links = [] }; writes = []; metadata = None } }
+        ensures { result
+            ≡
+            record { chain = record { base = state_of H.digest F.Op.spelling db.now; links = [] }; writes = []; metadata = None } }
     {
         Unmerkleized::on(alloc, Seeded::fresh(rt), Chain::new(alloc, state_of(db)))
     }
@@ -73,7 +75,10 @@ impl<F: Family> Unmerkleized<F> {
     /// which gives the batch up.
     pub fn write(mut self, key: Key, value: Option<Value>) -> Result<Unmerkleized<F>, ManagedFault>
         ensures may { IsOkUnless result ManagedFault.OutOfMemory }
-        ensures ok { IfOk result (λ batch. batch ≡ record { chain = self.chain; writes = settled (self.writes ++ (key, value) ∷ []); metadata = self.metadata }) }
+        ensures ok { IfOk result
+            (λ batch. batch
+            ≡
+            record { chain = self.chain; writes = settled (self.writes ++ (key, value) ∷ []); metadata = self.metadata }) }
     {
         self.writes.put(key, value)?;
         Ok(self)
@@ -81,7 +86,8 @@ impl<F: Family> Unmerkleized<F> {
 
     /// Ok exactly where the database is in a state of the chain.
     pub(crate) fn check<H: Hasher>(&self, db: &Log<F, H>) -> Result<usize, ManagedFault>
-        ensures { MatchOption (stale_read self.now.chain (state_of H.digest F.Op.spelling db.now)) (IsOk result) (λ fault. result ≡ Err fault) }
+        ensures { MatchOption (stale_read self.now.chain (state_of H.digest F.Op.spelling db.now))
+            (IsOk result) (λ fault. result ≡ Err fault) }
     {
         let state = state_of(db);
         match self.chain.place(&state) {
@@ -98,8 +104,10 @@ impl<F: KeyedFamily> Unmerkleized<F> {
     /// The value of the key, which is None where it has none. It takes no memory. Refused exactly where the
     /// database's size and root are no state of the chain, with these.
     pub fn get<H: Hasher>(&self, db: &Log<F, H>, key: &Key) -> Result<Option<Value>, ManagedFault>
-        ensures refusal { MatchOption (stale_read self.now.chain (state_of H.digest F.Op.spelling db.now)) (IsOk result) (λ fault. result ≡ Err fault) }
-        ensures value { IfOk result (λ value. value ≡ read F.write_of self.now.chain self.now.writes db.now key.now) }
+        ensures refusal { MatchOption (stale_read self.now.chain (state_of H.digest F.Op.spelling db.now))
+            (IsOk result) (λ fault. result ≡ Err fault) }
+        ensures value { IfOk result (λ value. value ≡ read F.write_of self.now.chain self.now.writes db.now
+            key.now) }
     {
         self.check(db)?;
         Ok(self.read(db, key))
@@ -111,8 +119,10 @@ impl<F: KeyedFamily> Unmerkleized<F> {
         db: &Log<F, H>,
         keys: &[Key],
     ) -> Result<Vec<Option<Value>>, ManagedFault>
-        ensures refusal { MatchOption (stale_read self.now.chain (state_of H.digest F.Op.spelling db.now)) (IsOkUnless result ManagedFault.OutOfMemory) (λ fault. result ≡ Err fault) }
-        ensures values { IfOk result (λ values. values.items ≡ map (read F.write_of self.now.chain self.now.writes db.now) keys.now) }
+        ensures refusal { MatchOption (stale_read self.now.chain (state_of H.digest F.Op.spelling db.now))
+            (IsOkUnless result ManagedFault.OutOfMemory) (λ fault. result ≡ Err fault) }
+        ensures values { IfOk result (λ values. values.items
+            ≡ map (read F.write_of self.now.chain self.now.writes db.now) keys.now) }
     {
         self.check(db)?;
         Ok(self.read_all(db, keys)?)
@@ -125,8 +135,10 @@ impl<F: KeyedFamily> Unmerkleized<F> {
         db: &Log<F, H>,
         keys: &[Key],
     ) -> Result<(Vec<Option<Value>>, Staged<F>), ManagedFault>
-        ensures refusal { MatchOption (stale_read self.chain (state_of H.digest F.Op.spelling db.now)) (IsOkUnless result ManagedFault.OutOfMemory) (λ fault. result ≡ Err fault) }
-        ensures values { IfOk result (λ r. r.0.items ≡ map (read F.write_of self.chain self.writes db.now) keys.now) }
+        ensures refusal { MatchOption (stale_read self.chain (state_of H.digest F.Op.spelling db.now))
+            (IsOkUnless result ManagedFault.OutOfMemory) (λ fault. result ≡ Err fault) }
+        ensures values { IfOk result (λ r. r.0.items ≡ map (read F.write_of self.chain self.writes db.now)
+            keys.now) }
         ensures staged { IfOk result (λ r. r.1 ≡ record { batch = self; keys = keys.now }) }
     {
         let values = self.get_many(db, keys)?;
@@ -150,7 +162,8 @@ impl<F: KeyedFamily> Unmerkleized<F> {
         db: &Log<F, H>,
         keys: &[Key],
     ) -> Result<Vec<Option<Value>>, OutOfMemory>
-        ensures { IfOk result (λ values. values.items ≡ map (read F.write_of self.now.chain self.now.writes db.now) keys.now) }
+        ensures { IfOk result (λ values. values.items
+            ≡ map (read F.write_of self.now.chain self.now.writes db.now) keys.now) }
     {
         Ok(
             keys.iter()

@@ -25,7 +25,8 @@ pub enum FrameError {
 pub fn frame(alloc: Global, body: &[u8]) -> Result<Vec<u8>, OutOfMemory>
     requires { length body.now ≤ 10485760 }
     ensures written { IfOk result (λ bytes. bytes.items ≡ string_written body.now) }
-    ensures again { IfOk result (λ bytes. (rest : List ℕ) → front 10485760 (bytes.items ++ rest) ≡ Whole body.now rest) }
+    ensures again { IfOk result (λ bytes. (rest : List ℕ)
+        → front 10485760 (bytes.items ++ rest) ≡ Whole body.now rest) }
 {
     let mut out = Writer::with_capacity(alloc, body.len().saturating_add(LENGTH_BYTES))?;
     out.write_bytes(body)?;

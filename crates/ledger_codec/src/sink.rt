@@ -75,7 +75,8 @@ impl<W: Write> Sink for Writing<W> {
     fn write(&mut self, bytes: &[u8]) -> Result<usize, SinkError>
         ensures bound { WritesAtMost result bytes.now }
         ensures progress { IfOk result (λ n. 0 < length bytes.now → 0 < n) }
-        ensures bytes { WriteAppends (W.contents self.old.inner) (W.contents self.new.inner) result bytes.now }
+        ensures bytes { WriteAppends (W.contents self.old.inner) (W.contents self.new.inner) result
+            bytes.now }
         ensures cause { HasCauseOf Failed self.old.faults self.new.faults result }
         ensures memory { IsErrOf result OutOfMemory → IsTrue false }
         ensures steady { OnOk result (self.new.faults ≡ self.old.faults) }
@@ -142,10 +143,12 @@ impl Sink for MemorySink {
     fn write(&mut self, bytes: &[u8]) -> Result<usize, SinkError>
         ensures bound { WritesAtMost result bytes.now }
         ensures progress { IfOk result (λ n. 0 < length bytes.now → 0 < n) }
-        ensures bytes { WriteAppends (Some (sink_bytes self.old)) (Some (sink_bytes self.new)) result bytes.now }
+        ensures bytes { WriteAppends (Some (sink_bytes self.old)) (Some (sink_bytes self.new)) result
+            bytes.now }
         ensures cause { HasCauseOf Failed self.old.faults self.new.faults result }
         ensures memory { IsErrOf result OutOfMemory → IsTrue true }
-        ensures fails { IsErrOf result Failed ↔ IsTrue (is_among (sink_calls self.old) (sink_failing self.old)) }
+        ensures fails { IsErrOf result Failed ↔ IsTrue
+            (is_among (sink_calls self.old) (sink_failing self.old)) }
         ensures steady { (IsErrOf result Failed → ⊥) → self.new.faults ≡ self.old.faults }
         ensures calls { sink_calls self.new ≡ next_call (sink_calls self.old) }
         ensures failing { sink_failing self.new ≡ sink_failing self.old }

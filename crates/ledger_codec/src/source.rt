@@ -58,7 +58,8 @@ impl<R: Read> Source for Reading<R> {
 
     fn read(&mut self, buffer: &mut [u8]) -> Result<usize, SourceFailed>
         ensures bound { ReadsAtMost result buffer.new }
-        ensures bytes { ReadConsumes (R.remaining self.old.inner) (R.remaining self.new.inner) result buffer.new }
+        ensures bytes { ReadConsumes (R.remaining self.old.inner) (R.remaining self.new.inner) result
+            buffer.new }
         ensures cause { HasCause self.old.faults self.new.faults result }
         ensures steady { OnOk result (self.new.faults ≡ self.old.faults) }
     {
@@ -116,7 +117,8 @@ impl Source for MemorySource {
 
     fn read(&mut self, buffer: &mut [u8]) -> Result<usize, SourceFailed>
         ensures bound { ReadsAtMost result buffer.new }
-        ensures bytes { ReadConsumes (Some (source_bytes self.old)) (Some (source_bytes self.new)) result buffer.new }
+        ensures bytes { ReadConsumes (Some (source_bytes self.old)) (Some (source_bytes self.new)) result
+            buffer.new }
         ensures cause { HasCause self.old.faults self.new.faults result }
         ensures fails { is_err result ≡ is_among (source_calls self.old) (source_failing self.old) }
         ensures steady { OnOk result (self.new.faults ≡ self.old.faults) }

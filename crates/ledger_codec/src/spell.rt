@@ -51,7 +51,8 @@ impl<'a> Reader<'a> {
     /// a count alone reserves none.
     #[tactic(auto, unfolding(crate::specs::Sequences::list_at))]
     pub fn read_vec<T: Spell>(&mut self, alloc: Global, limit: u64) -> Result<Vec<T>, CodecError>
-        ensures { ReadsAs (λ values. values.items) result self.old self.new (list_at limit T.reading self.old) }
+        ensures { ReadsAs (λ values. values.items) result self.old self.new
+            (list_at limit T.reading self.old) }
     {
         let mut at = self.fork();
         let count = at.read_count(limit)?;

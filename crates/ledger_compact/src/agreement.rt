@@ -32,13 +32,17 @@ pub fn run_both<F: CompactFamily, H: Hasher>(
     batches: &[List<F::Op>],
 ) -> Result<Twins<F, H>, LogFault>
     ensures may { IsOkUnless result LogFault.OutOfMemory }
-    ensures full { IfOk result (λ t. t.full ≡ after_batches F.floor_of (fresh_log F.commit_of) batches.now) }
+    ensures full { IfOk result (λ t. t.full ≡ after_batches F.floor_of (fresh_log F.commit_of)
+        batches.now) }
     ensures compact { IfOk result (λ t. compact_of H.digest F.Op.spelling t.full ≡ Some t.compact) }
-    ensures full_answers { IfOk result (λ t. t.full_answers ≡ answers F.floor_of (fresh_log F.commit_of) batches.now) }
+    ensures full_answers { IfOk result (λ t. t.full_answers
+        ≡ answers F.floor_of (fresh_log F.commit_of) batches.now) }
     ensures compact_answers { IfOk result (λ t. t.compact_answers ≡ t.full_answers) }
-    ensures root { IfOk result (λ t. compact_root H.digest t.compact ≡ log_root H.digest F.Op.spelling t.full) }
+    ensures root { IfOk result (λ t. compact_root H.digest t.compact
+        ≡ log_root H.digest F.Op.spelling t.full) }
     ensures size { IfOk result (λ t. t.compact.size ≡ log_size t.full) }
-    ensures floor { IfOk result (λ t. floor_or_zero (F.floor_of t.compact.last) ≡ log_floor F.floor_of t.full) }
+    ensures floor { IfOk result (λ t. floor_or_zero (F.floor_of t.compact.last)
+        ≡ log_floor F.floor_of t.full) }
 {
     let mut full = Log::<F, H>::fresh(alloc)?;
     let mut compact = CompactLog::<F, H>::fresh(alloc)?;

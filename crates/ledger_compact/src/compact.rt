@@ -42,7 +42,8 @@ impl<F: CompactFamily, H: Hasher> CompactLog<F, H> {
     /// A log of one commit, without metadata and with floor 0. Refused for want of memory alone.
     pub fn fresh(alloc: Global) -> Result<CompactLog<F, H>, LogFault>
         ensures may { IsOkUnless result LogFault.OutOfMemory }
-        ensures ok { IfOk result (λ log. compact_of H.digest F.Op.spelling (fresh_log F.commit_of) ≡ Some log) }
+        ensures ok { IfOk result (λ log. compact_of H.digest F.Op.spelling (fresh_log F.commit_of)
+            ≡ Some log) }
     {
         let last = F::commit(None, Location::ZERO);
         let peaks = pushed(Peaks::<H>::new(alloc), &last)?;

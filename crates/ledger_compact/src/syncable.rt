@@ -23,9 +23,9 @@ pub trait CompactSyncable<F: CompactFamily, H: Hasher> {
     fn state(&self) -> Result<CompactState<F::Op>, LogFault>
         ensures may { IsOkUnless result LogFault.OutOfMemory }
         ensures ok { IfOk result (λ state. option_map state_of (kept self.now) ≡ Some state) }
-        ensures taken { (log : CompactView F.Op) →
-            kept self.now ≡ Some log →
-            state_refusal H.digest F.Op.spelling F.floor_of (target_of H.digest log) (state_of log) ≡ None };
+        ensures taken { (log : CompactView F.Op) → kept self.now ≡ Some log
+            → state_refusal H.digest F.Op.spelling F.floor_of (target_of H.digest log) (state_of log)
+            ≡ None };
 }
 
 impl<F: CompactFamily, H: Hasher> CompactSyncable<F, H> for CompactLog<F, H> {

@@ -72,7 +72,8 @@ fn first_batch<F: Family>(ops: &[F::Op]) -> usize
     requires { 0 < length ops.now }
     ensures some { 0 < result }
     ensures most { result ≤ length ops.now }
-    ensures cut { batches_of F.floor_of ops.now ≡ take result ops.now ∷ batches_of F.floor_of (drop result ops.now) }
+    ensures cut { batches_of F.floor_of ops.now ≡ take result ops.now ∷ batches_of F.floor_of
+        (drop result ops.now) }
 {
     let mut count = 0;
     for op in ops {

@@ -35,7 +35,8 @@ fn add_test<F: ExampleFamily>(
     number: u64,
 ) -> Result<(), OutOfMemory>
     requires { number < 2 ^ 32 }
-    ensures { OnOk result (ops.new.items ≡ ops.old.items ++ test_step F.test_of F.test_commit_of seed start number) }
+    ensures { OnOk result (ops.new.items ≡ ops.old.items
+        ++ test_step F.test_of F.test_commit_of seed start number) }
 {
     let key = key_of(seed, number);
     ops.push(F::test(key, value_of(&key)))?;

@@ -43,7 +43,8 @@ pub trait BatchStore<F: Family>: Drop {
             (batches_of F.floor_of ops.now)
             ≡ None }
         ensures may { IsOkUnless result LogFault.OutOfMemory }
-        ensures ok { OnOk result (self.new ≡ with_batches appended self.old (batches_of F.floor_of ops.now)) }
+        ensures ok { OnOk result (self.new ≡ with_batches appended self.old
+            (batches_of F.floor_of ops.now)) }
         ensures err { OnErr result (self.new ≡ self.old) };
 
     // A batch adds its operations, and its floor is the last.

@@ -42,7 +42,8 @@ pub trait Syncable<F: Family, H: Hasher> {
             r.1.items
             ≡ log_range (log self.now) start_loc
             (min (non_zero_u64_get max_ops) (op_count - start_loc))) }
-        ensures count { IfOk result (λ r. length r.1.items ≡ min (non_zero_u64_get max_ops) (op_count - start_loc)) }
+        ensures count { IfOk result (λ r. length r.1.items
+            ≡ min (non_zero_u64_get max_ops) (op_count - start_loc)) }
         ensures exact { IfOk result (λ r.
             r.0
             ≡ record {
@@ -60,7 +61,8 @@ pub trait Syncable<F: Family, H: Hasher> {
     fn pinned_nodes_at(&self, loc: Location) -> Result<Vec<Digest>, LogFault>
         ensures refusal { MatchOption (range_refusal (log self.now) loc loc)
             (IsOkUnless result LogFault.OutOfMemory) (λ fault. result ≡ Err fault) }
-        ensures nodes { IfOk result (λ nodes. nodes.items ≡ log_peaks_at H.digest F.Op.spelling (log self.now) loc) }
+        ensures nodes { IfOk result (λ nodes. nodes.items
+            ≡ log_peaks_at H.digest F.Op.spelling (log self.now) loc) }
         ensures count { IfOk result (λ nodes. length nodes.items ≡ count_ones loc) };
 }
 

@@ -83,8 +83,8 @@ fn reported<K: Sink>(alloc: Global, sizes: Sizes, report: Report<Sequenced>, out
     ensures fault { IfSome result.fault IsLate }
     ensures wrote { WroteText (K.written out.old) (K.written out.new) (lines_of sizes report) result.fault }
     ensures output { result.fault ≡ Some Output → Rose (K.faults out.old) (K.faults out.new) }
-    ensures line { IfSome result.fault
-        (LineBehind K.grows (K.written out.old) (K.written out.new) (K.faults out.old) (K.faults out.new) (lines_of sizes report)) }
+    ensures line { IfSome result.fault (LineBehind K.grows (K.written out.old) (K.written out.new)
+        (K.faults out.old) (K.faults out.new) (lines_of sizes report)) }
 {
     match lines(alloc, sizes, &report) {
         Ok(text) => printed(report, text.as_str(), out),
@@ -103,10 +103,12 @@ pub fn run_generate<R: RandomSource + Threads + Sync, K: Sink>(
 ) -> Outcome
     ensures status { result.status ≡ status_of result.fault }
     ensures usage { (result.status == 2) ≡ not (is_some (form_of (map string_bytes words.now))) }
-    ensures complete { Completes (form_of (map string_bytes words.now)) (K.faults out.old) (K.faults out.new) result.status }
+    ensures complete { Completes (form_of (map string_bytes words.now)) (K.faults out.old)
+        (K.faults out.new) result.status }
     ensures generated { IfSome result.report (IsGenerated (form_of (map string_bytes words.now))) }
     ensures reported { has_report result.fault ≡ true → IsSome result.report }
-    ensures caused { IfSome result.fault (Caused (form_of (map string_bytes words.now)) (K.faults out.old) (K.faults out.new)) }
+    ensures caused { IfSome result.fault (Caused (form_of (map string_bytes words.now)) (K.faults out.old)
+        (K.faults out.new)) }
     ensures wrote { WroteText (K.written out.old) (K.written out.new)
         (lines_if (form_of (map string_bytes words.now)) result.report) result.fault }
     ensures line { IfSome result.fault

@@ -11,7 +11,8 @@ use std::fmt::Write;
 
 #[tactic(auto, unfolding(crate::specs::Text::generated_line))]
 fn push_generated(out: &mut String, accounts: u64, transfers: u64) -> Result<(), AllocError>
-    ensures { OnOk result (string_bytes out.new ≡ string_bytes out.old ++ generated_line accounts transfers) }
+    ensures { OnOk result (string_bytes out.new ≡ string_bytes out.old
+        ++ generated_line accounts transfers) }
 {
     write!(out, "generated {accounts} {transfers}\n")
 }

@@ -35,7 +35,8 @@ impl Gathered {
     /// No line yet.
     pub fn new(alloc: Global) -> Gathered
         ensures { seen result
-            ≡ record { opens = []; target = None; updates = []; limits = None; section = Opening; payments = []; rounds = []; blocks = [] } }
+            ≡
+            record { opens = []; target = None; updates = []; limits = None; section = Opening; payments = []; rounds = []; blocks = [] } }
     {
         Gathered {
             opens: Vec::new(alloc),
@@ -135,8 +136,8 @@ impl Gathered {
 
     /// Puts the open round, if there is one, to the rounds of the open block.
     fn end_round(&mut self, alloc: Global) -> Result<(), OutOfMemory>
-        ensures rounds { OnOk result
-            (self.new.rounds.items ≡ with_round self.old.section self.old.rounds.items self.old.payments.items) }
+        ensures rounds { OnOk result (self.new.rounds.items
+            ≡ with_round self.old.section self.old.rounds.items self.old.payments.items) }
         ensures opens { self.new.opens ≡ self.old.opens }
         ensures target { self.new.target ≡ self.old.target }
         ensures updates { self.new.updates ≡ self.old.updates }

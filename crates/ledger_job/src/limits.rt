@@ -30,7 +30,8 @@ impl JobLimits {
     /// These limits, None exactly where the batch is 0 or the number of requests is outside 1 to 64.
     pub(crate) fn new(batch: u64, outstanding: u64) -> Option<JobLimits>
         ensures { MatchOption result (in_range batch outstanding ≡ false)
-            (λ l. (in_range batch outstanding ≡ true) × (l ≡ record { batch = batch; outstanding = outstanding })) }
+            (λ l. (in_range batch outstanding ≡ true)
+            × (l ≡ record { batch = batch; outstanding = outstanding })) }
     {
         if batch > 0 && outstanding > 0 && outstanding <= 64 {
             Some(JobLimits { batch, outstanding })

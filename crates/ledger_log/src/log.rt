@@ -47,7 +47,8 @@ impl<F: Family, H: Hasher> Log<F, H> {
     /// A log of one commit, without metadata and with floor 0. Refused for want of memory alone.
     pub fn fresh(alloc: Global) -> Result<Log<F, H>, LogFault>
         ensures may { IsOkUnless result LogFault.OutOfMemory }
-        ensures ok { IfOk result (λ log. log ≡ record { front = 0; pinned = []; ops = F.commit_of None 0 ∷ [] }) }
+        ensures ok { IfOk result
+            (λ log. log ≡ record { front = 0; pinned = []; ops = F.commit_of None 0 ∷ [] }) }
     {
         let mut ops = Vec::new(alloc);
         ops.push(F::commit(None, Location::ZERO))?;
@@ -66,7 +67,8 @@ impl<F: Family, H: Hasher> Log<F, H> {
         ensures refusal { MatchOption
             (parts_refusal F.floor_of (record { front = start; pinned = pinned.items; ops = ops.items }))
             (IsOkUnless result LogFault.OutOfMemory) (λ fault. result ≡ Err fault) }
-        ensures ok { IfOk result (λ log. log ≡ record { front = start; pinned = pinned.items; ops = ops.items }) }
+        ensures ok { IfOk result
+            (λ log. log ≡ record { front = start; pinned = pinned.items; ops = ops.items }) }
     {
         let needed = start.get().count_ones() as usize;
         let Some(list) = MerkleList::<H>::from_parts(alloc, start, pinned) else {
@@ -90,7 +92,8 @@ impl<F: Family, H: Hasher> Log<F, H> {
             (parts_refusal F.floor_of
             (record { front = list.front; pinned = list.pinned; ops = ops.items }))
             (IsOkUnless result LogFault.OutOfMemory) (λ fault. result ≡ Err fault) }
-        ensures ok { IfOk result (λ log. log ≡ record { front = list.front; pinned = list.pinned; ops = ops.items }) }
+        ensures ok { IfOk result
+            (λ log. log ≡ record { front = list.front; pinned = list.pinned; ops = ops.items }) }
     {
         let floor = floor_behind::<F>(list.front(), ops.as_slice())?;
         let ops = Retained::from_vec(alloc, ops);
@@ -109,7 +112,8 @@ impl<F: Family, H: Hasher> Log<F, H> {
         requires least { list.front ≤ floor }
         requires most { floor < list.front + length ops }
         requires room { list.front + length ops ≤ 2 ^ 62 }
-        ensures { IfOk result (λ log. log ≡ record { front = list.front; pinned = list.pinned; ops = ops }) }
+        ensures { IfOk result
+            (λ log. log ≡ record { front = list.front; pinned = list.pinned; ops = ops }) }
     {
         let index = index_of::<F>(alloc, ops.as_slice(), list.front().get())?;
         Ok(Log {
@@ -256,7 +260,8 @@ impl<F: Family, H: Hasher> Log<F, H> {
         ensures ops { IfOk result (λ r.
             r.1.items
             ≡ log_range self.now start_loc (min (non_zero_u64_get max_ops) (op_count - start_loc))) }
-        ensures count { IfOk result (λ r. length r.1.items ≡ min (non_zero_u64_get max_ops) (op_count - start_loc)) }
+        ensures count { IfOk result (λ r. length r.1.items
+            ≡ min (non_zero_u64_get max_ops) (op_count - start_loc)) }
         ensures exact { IfOk result (λ r.
             r.0
             ≡ record {
@@ -289,7 +294,8 @@ impl<F: Family, H: Hasher> Log<F, H> {
     pub fn pinned_nodes_at(&self, loc: Location) -> Result<Vec<Digest>, LogFault>
         ensures refusal { MatchOption (range_refusal self.now loc loc)
             (IsOkUnless result LogFault.OutOfMemory) (λ fault. result ≡ Err fault) }
-        ensures nodes { IfOk result (λ nodes. nodes.items ≡ log_peaks_at H.digest F.Op.spelling self.now loc) }
+        ensures nodes { IfOk result (λ nodes. nodes.items
+            ≡ log_peaks_at H.digest F.Op.spelling self.now loc) }
         ensures count { IfOk result (λ nodes. length nodes.items ≡ count_ones loc) }
     {
         let size = self.size();
@@ -394,7 +400,8 @@ fn floor_of_last<F: Family>(ops: &[F::Op]) -> Option<Location>
 
 /// The floor of the last of these operations, which begin at `start`, where they are a log.
 fn floor_behind<F: Family>(start: Location, ops: &[F::Op]) -> Result<Location, LogFault>
-    ensures refusal { MatchOption (ops_refusal F.floor_of start ops.now) (IsOk result) (λ fault. result ≡ Err fault) }
+    ensures refusal { MatchOption (ops_refusal F.floor_of start ops.now) (IsOk result)
+        (λ fault. result ≡ Err fault) }
     ensures floor { IfOk result (λ f. last_floor F.floor_of ops.now ≡ Some f) }
     ensures within { IfOk result (λ f. (start ≤ f) × (f < start + length ops.now)) }
     ensures room { OnOk result (start + length ops.now ≤ 2 ^ 62) }

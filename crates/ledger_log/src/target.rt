@@ -19,7 +19,8 @@ pub struct Target {
 impl Target {
     /// This target, None exactly where the range is empty.
     pub fn new(root: Digest, start: Location, end: Location) -> Option<Target>
-        ensures { MatchOption result (end ≤ start) (λ t. (t.root ≡ root) × (t.start ≡ start) × (t.end ≡ end)) }
+        ensures { MatchOption result (end ≤ start)
+            (λ t. (t.root ≡ root) × (t.start ≡ start) × (t.end ≡ end)) }
     {
         if start.get() < end.get() {
             Some(Target { root, start, end })

@@ -19,8 +19,8 @@ pub fn ended<R: RandomSource + Threads + Sync, K: Sink>(
     out: &mut K,
 ) -> ExitCode
     ensures usage { (exit_status result == 2) ≡ not (is_some (form_of (map string_bytes words.now))) }
-    ensures complete { Completes (form_of (map string_bytes words.now)) (K.faults out.old) (K.faults out.new)
-        (exit_status result) }
+    ensures complete { Completes (form_of (map string_bytes words.now)) (K.faults out.old)
+        (K.faults out.new) (exit_status result) }
 {
     let outcome = run_generate(rt, alloc, words, out);
     ExitCode::from(outcome.status)

@@ -39,8 +39,8 @@ fn ended<R: Threads + Wait + Copy + Send + 'static, S: Source, Li: Listener, K: 
 ) -> ExitCode
     ensures usage { (exit_status result == 2) ≡ not (is_some (form_of (map string_bytes words.now))) }
     ensures complete { Completes (form_of (map string_bytes words.now)) (S.left job.old) (S.faults job.old)
-        (S.faults job.new) (Li.faults listener.old) (Li.faults listener.new) (K.faults out.old) (K.faults out.new)
-        (exit_status result) }
+        (S.faults job.new) (Li.faults listener.old) (Li.faults listener.new) (K.faults out.old)
+        (K.faults out.new) (exit_status result) }
 {
     let mut spawner = ThreadSpawner::new();
     let outcome = run_serve(rt, alloc, words, job, listener, &mut spawner, gate, out);

@@ -19,9 +19,9 @@ pub fn ended<D: Dialer, K: Sink>(
     out: &mut K,
 ) -> ExitCode
     ensures usage { (exit_status result == 2) ≡ not (is_some (form_of (map string_bytes words.now))) }
-    ensures complete { Completes (form_of (map string_bytes words.now)) (D.dials dialer.old) (D.dials dialer.new)
-        (link_over (D.service dialer.old) (D.wire dialer.old) (D.wire dialer.new) (D.faults dialer.old)
-        (D.faults dialer.new))
+    ensures complete { Completes (form_of (map string_bytes words.now)) (D.dials dialer.old)
+        (D.dials dialer.new) (link_over (D.service dialer.old) (D.wire dialer.old) (D.wire dialer.new)
+        (D.faults dialer.old) (D.faults dialer.new))
         (sink_over K.grows (K.written out.old) (K.written out.new) (K.faults out.old) (K.faults out.new))
         (exit_status result) }
 {

@@ -33,7 +33,8 @@ enum Met {
 
 /// What two inputs of one digest come to.
 fn inputs(one: Result<Vec<u8>, OutOfMemory>, other: Result<Vec<u8>, OutOfMemory>) -> Met
-    ensures { (hash : List ℕ → List ℕ) → IfOk one (λ a. IfOk other (λ b. Collides hash a.items b.items)) → Meets hash result }
+    ensures { (hash : List ℕ → List ℕ) → IfOk one (λ a. IfOk other (λ b. Collides hash a.items b.items))
+        → Meets hash result }
 {
     match (one, other) {
         (Ok(one), Ok(other)) => Met::Inputs(one, other),
@@ -52,10 +53,13 @@ pub fn collision<H: Hasher, T: Leaf>(
     requires start { a.now.start ≡ b.now.start }
     requires count { length a.now.ops ≡ length b.now.ops }
     requires within { a.now.start + length a.now.ops ≤ 2 ^ 62 }
-    requires nodes { (length a.now.pinned ≡ count_ones a.now.start) × (length b.now.pinned ≡ count_ones b.now.start) }
-    requires root { part_root H.digest a.now.pinned a.now.start (map T.spelling a.now.ops) ≡ part_root H.digest b.now.pinned b.now.start (map T.spelling b.now.ops) }
+    requires nodes { (length a.now.pinned ≡ count_ones a.now.start)
+        × (length b.now.pinned ≡ count_ones b.now.start) }
+    requires root { part_root H.digest a.now.pinned a.now.start (map T.spelling a.now.ops)
+        ≡ part_root H.digest b.now.pinned b.now.start (map T.spelling b.now.ops) }
     ensures none { IfOk result (λ met. MatchOption met (a.now ≡ b.now) (λ _. a.now ≢ b.now)) }
-    ensures collides { IfOk result (λ met. MatchOption met (Unit {0}) (λ pair. Collides H.digest pair.0.items pair.1.items)) }
+    ensures collides { IfOk result (λ met. MatchOption met (Unit {0})
+        (λ pair. Collides H.digest pair.0.items pair.1.items)) }
     ensures memory { OnErr result (a.now ≢ b.now) }
 {
     match walk::<H, T>(alloc, a, b) {
@@ -70,8 +74,10 @@ fn walk<H: Hasher, T: Leaf>(alloc: Global, a: &Part<T>, b: &Part<T>) -> Result<(
     requires start { a.now.start ≡ b.now.start }
     requires count { length a.now.ops ≡ length b.now.ops }
     requires within { a.now.start + length a.now.ops ≤ 2 ^ 62 }
-    requires nodes { (length a.now.pinned ≡ count_ones a.now.start) × (length b.now.pinned ≡ count_ones b.now.start) }
-    requires root { part_root H.digest a.now.pinned a.now.start (map T.spelling a.now.ops) ≡ part_root H.digest b.now.pinned b.now.start (map T.spelling b.now.ops) }
+    requires nodes { (length a.now.pinned ≡ count_ones a.now.start)
+        × (length b.now.pinned ≡ count_ones b.now.start) }
+    requires root { part_root H.digest a.now.pinned a.now.start (map T.spelling a.now.ops)
+        ≡ part_root H.digest b.now.pinned b.now.start (map T.spelling b.now.ops) }
     ensures ok { OnOk result (a.now ≡ b.now) }
     ensures met { IfErr result (Meets H.digest) }
     ensures differ { OnErr result (a.now ≢ b.now) }
@@ -99,7 +105,8 @@ fn leaves_of<H: Hasher, T: Leaf>(
     one: &T,
     other: &T,
 ) -> Result<(Digest, Digest), Met>
-    ensures leaves { IfOk result (λ d. (d.0 ≡ leaf H.digest at (T.spelling one.now)) × (d.1 ≡ leaf H.digest at (T.spelling other.now))) }
+    ensures leaves { IfOk result (λ d. (d.0 ≡ leaf H.digest at (T.spelling one.now))
+        × (d.1 ≡ leaf H.digest at (T.spelling other.now))) }
     ensures same { IfOk result (λ d. d.0 ≡ d.1 → one.now ≡ other.now) }
     ensures met { IfErr result (Meets H.digest) }
     ensures differ { OnErr result (one.now ≢ other.now) }
@@ -161,8 +168,10 @@ fn join_both<H: Hasher>(
     requires { length lefts.now ≡ length rights.now }
     ensures within { IfOk result (λ j. j.0 ≤ length lefts.now) }
     ensures left { IfOk result (λ j. push H.digest size lefts.now one ≡ take j.0 lefts.now ++ j.1 ∷ []) }
-    ensures right { IfOk result (λ j. push H.digest size rights.now other ≡ take j.0 rights.now ++ j.2 ∷ []) }
-    ensures same { IfOk result (λ j. take j.0 lefts.now ≡ take j.0 rights.now → j.1 ≡ j.2 → (lefts.now ≡ rights.now) × (one ≡ other)) }
+    ensures right { IfOk result (λ j. push H.digest size rights.now other ≡ take j.0 rights.now
+        ++ j.2 ∷ []) }
+    ensures same { IfOk result (λ j. take j.0 lefts.now ≡ take j.0 rights.now → j.1 ≡ j.2
+        → (lefts.now ≡ rights.now) × (one ≡ other)) }
     ensures met { IfErr result (Meets H.digest) }
     ensures differ { OnErr result (lefts.now ≡ rights.now → one ≢ other) }
 {
@@ -186,7 +195,8 @@ fn nodes_of<H: Hasher>(
     right: &Digest,
     other: &Digest,
 ) -> Result<(Digest, Digest), Met>
-    ensures nodes { IfOk result (λ d. (d.0 ≡ node H.digest left.now one.now) × (d.1 ≡ node H.digest right.now other.now)) }
+    ensures nodes { IfOk result (λ d. (d.0 ≡ node H.digest left.now one.now)
+        × (d.1 ≡ node H.digest right.now other.now)) }
     ensures same { IfOk result (λ d. d.0 ≡ d.1 → (left.now ≡ right.now) × (one.now ≡ other.now)) }
     ensures met { IfErr result (Meets H.digest) }
     ensures differ { OnErr result (left.now ≡ right.now → one.now ≢ other.now) }

@@ -74,7 +74,10 @@ fn part(
 
 /// The root of a part, None where it has the wrong number of pinned nodes or too many operations.
 fn root_of(alloc: Global, part: &Part<Chunk>) -> Result<Option<Digest>, OutOfMemory>
-    ensures { IfOk result (λ root. MatchOption root (Unit {0}) (λ digest. (part.now.start + length part.now.ops ≤ 2 ^ 62) × (length part.now.pinned ≡ count_ones part.now.start) × (digest ≡ part_root toy_digest part.now.pinned part.now.start (map (λ x. x) part.now.ops)))) }
+    ensures { IfOk result (λ root. MatchOption root (Unit {0})
+        (λ digest. (part.now.start + length part.now.ops ≤ 2 ^ 62)
+        × (length part.now.pinned ≡ count_ones part.now.start)
+        × (digest ≡ part_root toy_digest part.now.pinned part.now.start (map (λ x. x) part.now.ops)))) }
 {
     let pinned = Vec::from_slice(alloc, part.pinned.as_slice())?;
     let ops = part.ops.as_slice();

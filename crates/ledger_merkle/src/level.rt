@@ -129,9 +129,11 @@ pub fn add<H: Hasher>(
     requires there { height ≤ length levels.old.items }
     requires pins { length pinned.now ≡ count_ones front }
     requires count { count ≡ front + length (get_or levels.old.items height []) }
-    requires rest { (i : ℕ) → get_or levels.old.items (height + i) [] ≡ nodes H.digest (reverse pinned.now) front (get_or levels.old.items height []) i }
+    requires rest { (i : ℕ) → get_or levels.old.items (height + i) []
+        ≡ nodes H.digest (reverse pinned.now) front (get_or levels.old.items height []) i }
     ensures below { (i : ℕ) → i < height → get_or levels.new.items i [] ≡ get_or levels.old.items i [] }
-    ensures ok { OnOk result ((i : ℕ) → get_or levels.new.items (height + i) [] ≡ nodes H.digest (reverse pinned.now) front (get_or levels.old.items height [] ++ node ∷ []) i) }
+    ensures ok { OnOk result ((i : ℕ) → get_or levels.new.items (height + i) []
+        ≡ nodes H.digest (reverse pinned.now) front (get_or levels.old.items height [] ++ node ∷ []) i) }
     ensures err { OnErr result ((i : ℕ) → get_or levels.new.items i [] ≡ get_or levels.old.items i []) }
     ensures long { length levels.old.items ≤ length levels.new.items }
 {
@@ -170,7 +172,8 @@ fn room(alloc: Global, levels: &mut Vec<Level>, height: usize) -> Result<(), Out
 /// One node more of this height.
 fn put(levels: &mut Vec<Level>, height: usize, node: Digest) -> Result<(), OutOfMemory>
     requires { height < length levels.old.items }
-    ensures ok { OnOk result (levels.new.items ≡ set levels.old.items height (get_or levels.old.items height [] ++ node ∷ [])) }
+    ensures ok { OnOk result (levels.new.items ≡ set levels.old.items height
+        (get_or levels.old.items height [] ++ node ∷ [])) }
     ensures err { OnErr result (levels.new.items ≡ levels.old.items) }
 {
     levels[height].push(node)
@@ -179,7 +182,8 @@ fn put(levels: &mut Vec<Level>, height: usize, node: Digest) -> Result<(), OutOf
 /// The first `kept` nodes of this height alone.
 fn cut(levels: &mut Vec<Level>, height: usize, kept: usize)
     requires { height < length levels.old.items }
-    ensures { levels.new.items ≡ set levels.old.items height (take kept (get_or levels.old.items height [])) }
+    ensures { levels.new.items ≡ set levels.old.items height
+        (take kept (get_or levels.old.items height [])) }
 {
     levels[height].shorten(kept);
 }
@@ -187,7 +191,8 @@ fn cut(levels: &mut Vec<Level>, height: usize, kept: usize)
 /// Drops on each level the nodes before the one at or over the new front `loc`.
 pub fn skip_levels(levels: &mut Vec<Level>, front: u64, loc: u64)
     requires { front ≤ loc }
-    ensures { (h : ℕ) → get_or levels.new.items h [] ≡ drop (loc / 2 ^ h - front / 2 ^ h) (get_or levels.old.items h []) }
+    ensures { (h : ℕ) → get_or levels.new.items h []
+        ≡ drop (loc / 2 ^ h - front / 2 ^ h) (get_or levels.old.items h []) }
 {
     let mut first = front;
     let mut next = loc;
@@ -201,7 +206,8 @@ pub fn skip_levels(levels: &mut Vec<Level>, front: u64, loc: u64)
 /// Drops on each level the nodes that are whole only with leaves from `size` on.
 pub fn cut_levels(levels: &mut Vec<Level>, front: u64, size: u64)
     requires { front ≤ size }
-    ensures { (h : ℕ) → get_or levels.new.items h [] ≡ take (size / 2 ^ h - front / 2 ^ h) (get_or levels.old.items h []) }
+    ensures { (h : ℕ) → get_or levels.new.items h []
+        ≡ take (size / 2 ^ h - front / 2 ^ h) (get_or levels.old.items h []) }
 {
     let mut first = front;
     let mut next = size;

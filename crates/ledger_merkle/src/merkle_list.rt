@@ -56,7 +56,9 @@ impl<H: Hasher> MerkleList<H> {
     /// A list of `front` leaves, none of them retained. None exactly where there aren't as many nodes as the
     /// front has binary ones.
     pub fn from_parts(alloc: Global, front: Location, pinned: Vec<Digest>) -> Option<MerkleList<H>>
-        ensures { MatchOption result (length pinned.items ≢ count_ones front) (λ m. (length pinned.items ≡ count_ones front) × (m ≡ record { front = front; pinned = pinned.items; leaves = [] })) }
+        ensures { MatchOption result (length pinned.items ≢ count_ones front)
+            (λ m. (length pinned.items ≡ count_ones front)
+            × (m ≡ record { front = front; pinned = pinned.items; leaves = [] })) }
     {
         if pinned.len() == front.get().count_ones() as usize {
             Some(MerkleList {
@@ -90,7 +92,8 @@ impl<H: Hasher> MerkleList<H> {
 
     /// Tests the conditions of [`MerkleList::proof`].
     pub fn has_range(&self, op_count: Location, start: Location, count: u64) -> bool
-        ensures { IsTrue result ↔ ((1 ≤ count) × (self.now.front ≤ start) × (start + count ≤ op_count) × (op_count ≤ list_size self.now)) }
+        ensures { IsTrue result ↔ ((1 ≤ count) × (self.now.front ≤ start) × (start + count ≤ op_count)
+            × (op_count ≤ list_size self.now)) }
     {
         let start = start.get();
         let end = op_count.get();
@@ -104,7 +107,10 @@ impl<H: Hasher> MerkleList<H> {
     /// One leaf more, by its digest.
     pub fn push(&mut self, leaf: Digest) -> Result<(), OutOfMemory>
         requires { list_size self.old < 2 ^ 62 }
-        ensures ok { OnOk result (self.new ≡ record { front = self.old.front; pinned = self.old.pinned; leaves = self.old.leaves ++ leaf ∷ [] }) }
+        ensures ok { OnOk result
+            (self.new
+            ≡
+            record { front = self.old.front; pinned = self.old.pinned; leaves = self.old.leaves ++ leaf ∷ [] }) }
         ensures err { OnErr result (self.new ≡ self.old) }
     {
         let front = self.front.get();
@@ -124,7 +130,10 @@ impl<H: Hasher> MerkleList<H> {
     /// The items as leaves more, in order: all of them or, where memory is refused, none.
     pub fn extend<T: Leaf>(&mut self, items: &[T]) -> Result<(), OutOfMemory>
         requires { list_size self.old + length items.now ≤ 2 ^ 62 }
-        ensures ok { OnOk result (self.new ≡ record { front = self.old.front; pinned = self.old.pinned; leaves = self.old.leaves ++ leaves_from H.digest (list_size self.old) (map T.spelling items.now) }) }
+        ensures ok { OnOk result
+            (self.new
+            ≡
+            record { front = self.old.front; pinned = self.old.pinned; leaves = self.old.leaves ++ leaves_from H.digest (list_size self.old) (map T.spelling items.now) }) }
         ensures err { OnErr result (self.new ≡ self.old) }
     {
         let size = self.size();
@@ -140,8 +149,13 @@ impl<H: Hasher> MerkleList<H> {
     /// Pushes the items one by one, as far as memory lasts.
     fn push_items<T: Leaf>(&mut self, items: &[T]) -> Result<(), OutOfMemory>
         requires { list_size self.old + length items.now ≤ 2 ^ 62 }
-        ensures ok { OnOk result (self.new ≡ record { front = self.old.front; pinned = self.old.pinned; leaves = self.old.leaves ++ leaves_from H.digest (list_size self.old) (map T.spelling items.now) }) }
-        ensures some { OnErr result ((self.new.front ≡ self.old.front) × (self.new.pinned ≡ self.old.pinned) × (take (length self.old.leaves) self.new.leaves ≡ self.old.leaves) × (length self.old.leaves ≤ length self.new.leaves)) }
+        ensures ok { OnOk result
+            (self.new
+            ≡
+            record { front = self.old.front; pinned = self.old.pinned; leaves = self.old.leaves ++ leaves_from H.digest (list_size self.old) (map T.spelling items.now) }) }
+        ensures some { OnErr result ((self.new.front ≡ self.old.front) × (self.new.pinned ≡ self.old.pinned)
+            × (take (length self.old.leaves) self.new.leaves ≡ self.old.leaves)
+            × (length self.old.leaves ≤ length self.new.leaves)) }
     {
         for item in items {
             let digest = hash_item::<H, T>(self.size(), item);
@@ -154,7 +168,9 @@ impl<H: Hasher> MerkleList<H> {
     pub fn shorten(&mut self, size: Location)
         requires least { self.old.front ≤ size }
         requires most { size ≤ list_size self.old }
-        ensures { self.new ≡ record { front = self.old.front; pinned = self.old.pinned; leaves = take (size - self.old.front) self.old.leaves } }
+        ensures { self.new
+            ≡
+            record { front = self.old.front; pinned = self.old.pinned; leaves = take (size - self.old.front) self.old.leaves } }
     {
         cut_levels(&mut self.levels, self.front.get(), size.get());
     }
@@ -164,7 +180,8 @@ impl<H: Hasher> MerkleList<H> {
         requires high { height ≤ 62 }
         requires whole { (index + 1) * 2 ^ height ≤ list_size self.now }
         requires known { self.now.front / 2 ^ height / 2 ≤ index / 2 }
-        ensures { result ≡ tree H.digest (reverse self.now.pinned) self.now.front self.now.leaves height (index * 2 ^ height) }
+        ensures { result ≡ tree H.digest (reverse self.now.pinned) self.now.front self.now.leaves height
+            (index * 2 ^ height) }
     {
         let first = self.front.get() / width_of(height);
         if first <= index {
@@ -229,9 +246,16 @@ impl<H: Hasher> MerkleList<H> {
         requires least { self.now.front ≤ start }
         requires within { start + count ≤ op_count }
         requires most { op_count ≤ list_size self.now }
-        ensures exact { IfOk result (λ proof. proof ≡ record { leaves = op_count; inactive_peaks = 0; digests = proof_digests H.digest self.now op_count start count }) }
-        ensures holds { IfOk result (λ proof. (items : Items (Items ℕ)) → leaves_from H.digest start items ≡ take count (drop (start - self.now.front) self.now.leaves) → RangeOk H.digest (root_at H.digest self.now op_count) proof.leaves proof.inactive_peaks proof.digests op_count start items) }
-        ensures last { IfOk result (λ proof. count ≡ 1 → start + 1 ≡ op_count → proof.digests ≡ peaks_at H.digest self.now start) }
+        ensures exact { IfOk result
+            (λ proof. proof
+            ≡
+            record { leaves = op_count; inactive_peaks = 0; digests = proof_digests H.digest self.now op_count start count }) }
+        ensures holds { IfOk result (λ proof. (items : Items (Items ℕ))
+            → leaves_from H.digest start items ≡ take count (drop (start - self.now.front) self.now.leaves)
+            → RangeOk H.digest (root_at H.digest self.now op_count) proof.leaves proof.inactive_peaks
+            proof.digests op_count start items) }
+        ensures last { IfOk result (λ proof. count ≡ 1 → start + 1 ≡ op_count
+            → proof.digests ≡ peaks_at H.digest self.now start) }
     {
         let size = op_count.get();
         let end = start.get() + count;
@@ -264,7 +288,9 @@ impl<H: Hasher> MerkleList<H> {
         requires whole { (index + 1) * 2 ^ height ≤ list_size self.now }
         requires known { self.now.front / 2 ^ height / 2 ≤ index / 2 }
         requires least { self.now.front ≤ start }
-        ensures { IfOk result (λ _. digests.new.items ≡ digests.old.items ++ outside_of (tree H.digest (reverse self.now.pinned) self.now.front self.now.leaves) start end height (index * 2 ^ height)) }
+        ensures { IfOk result (λ _. digests.new.items ≡ digests.old.items
+            ++ outside_of (tree H.digest (reverse self.now.pinned) self.now.front self.now.leaves) start end
+            height (index * 2 ^ height)) }
     {
         let _front = &self.front;
         let at = place_of(height, index);
@@ -286,7 +312,10 @@ impl<H: Hasher> MerkleList<H> {
     pub fn prune(&mut self, loc: Location) -> Result<(), OutOfMemory>
         requires least { self.old.front ≤ loc }
         requires most { loc ≤ list_size self.old }
-        ensures ok { OnOk result (self.new ≡ record { front = loc; pinned = peaks_at H.digest self.old loc; leaves = drop (loc - self.old.front) self.old.leaves }) }
+        ensures ok { OnOk result
+            (self.new
+            ≡
+            record { front = loc; pinned = peaks_at H.digest self.old loc; leaves = drop (loc - self.old.front) self.old.leaves }) }
         ensures size { list_size self.new ≡ list_size self.old }
         ensures root { list_root H.digest self.new ≡ list_root H.digest self.old }
         ensures kept { OnOk result (KeptFrom H.digest loc self.old self.new) }

@@ -43,7 +43,8 @@ impl<H: Hasher> Peaks<H> {
 
     /// These peaks of this number of leaves, None exactly where there aren't as many as the size has binary ones.
     pub fn from_parts(alloc: Global, size: Location, nodes: Vec<Digest>) -> Option<Peaks<H>>
-        ensures { MatchOption result (length nodes.items ≢ count_ones size) (λ p. (p.size ≡ size) × (p.nodes ≡ nodes.items)) }
+        ensures { MatchOption result (length nodes.items ≢ count_ones size)
+            (λ p. (p.size ≡ size) × (p.nodes ≡ nodes.items)) }
     {
         if nodes.len() == size.get().count_ones() as usize {
             Some(Peaks {
@@ -94,7 +95,8 @@ impl<H: Hasher> Peaks<H> {
     pub fn extended<T: Leaf>(self, items: &[T]) -> Result<Peaks<H>, OutOfMemory>
         requires { self.size + length items.now ≤ 2 ^ 62 }
         ensures size { IfOk result (λ p. p.size ≡ self.size + length items.now) }
-        ensures nodes { IfOk result (λ p. p.nodes ≡ grow H.digest self.size self.nodes (map T.spelling items.now)) }
+        ensures nodes { IfOk result (λ p. p.nodes ≡ grow H.digest self.size self.nodes
+            (map T.spelling items.now)) }
     {
         let mut peaks = self;
         for item in items {
@@ -107,7 +109,8 @@ impl<H: Hasher> Peaks<H> {
     /// One leaf more, by its digest. A refusal leaves the peaks as they were.
     pub fn push(&mut self, leaf: Digest) -> Result<(), OutOfMemory>
         requires { self.old.size < 2 ^ 62 }
-        ensures ok { OnOk result ((self.new.size ≡ self.old.size + 1) × (self.new.nodes ≡ push H.digest self.old.size self.old.nodes leaf)) }
+        ensures ok { OnOk result ((self.new.size ≡ self.old.size + 1)
+            × (self.new.nodes ≡ push H.digest self.old.size self.old.nodes leaf)) }
         ensures err { OnErr result (self.new ≡ self.old) }
     {
         let (kept, peak) = joined::<H>(self.size, self.nodes.as_slice(), leaf);

@@ -19,7 +19,9 @@ pub fn plain_digests<H: Hasher>(
 ) -> Result<Vec<Digest>, OutOfMemory>
     requires order { start ≤ end }
     requires most { length leaves.now ≤ 2 ^ 62 }
-    ensures { IfOk result (λ digests. digests.items ≡ proof_digests H.digest (record { front = 0; pinned = []; leaves = leaves.now }) (length leaves.now) start (end - start)) }
+    ensures { IfOk result (λ digests. digests.items
+        ≡ proof_digests H.digest (record { front = 0; pinned = []; leaves = leaves.now })
+        (length leaves.now) start (end - start)) }
 {
     let size = leaves.len() as u64;
     let mut digests = Vec::new(alloc);
@@ -47,7 +49,8 @@ fn add_plain<H: Hasher>(
     requires high { height ≤ 62 }
     requires within { at + 2 ^ height ≤ length leaves.now }
     requires most { length leaves.now ≤ 2 ^ 62 }
-    ensures { IfOk result (λ _. digests.new.items ≡ digests.old.items ++ outside_of (tree H.digest [] 0 leaves.now) start end height at) }
+    ensures { IfOk result (λ _. digests.new.items ≡ digests.old.items
+        ++ outside_of (tree H.digest [] 0 leaves.now) start end height at) }
 {
     if lies_outside(start, end, height, at) {
         digests.push(plain_node::<H>(leaves, height, at))?;

@@ -56,7 +56,8 @@ fn subtree_digest<H: Hasher, T: Leaf>(
     requires room { at + 2 ^ height ≤ 2 ^ 62 }
     requires items { start + length items.now ≤ 2 ^ 62 }
     requires enough { subtree_needs start (start + length items.now) height at ≤ length digests.now }
-    ensures digest { result.0 ≡ subtree H.digest start (start + length items.now) (map T.spelling items.now) height at digests.now }
+    ensures digest { result.0 ≡ subtree H.digest start (start + length items.now) (map T.spelling items.now)
+        height at digests.now }
     ensures used { result.1 ≡ subtree_needs start (start + length items.now) height at }
 {
     let width = width_of(height);
@@ -146,10 +147,18 @@ pub fn check_range<H: Hasher, T: Leaf>(
 ) -> Result<(), RangeFault>
     requires some { 0 < length items.now }
     requires within { start + length items.now ≤ size }
-    ensures wrong_size { ((proof.now.leaves ≢ size) ⊎ (proof.now.inactive_peaks ≢ 0)) → result ≡ Err (RangeFault.WrongSize proof.now.leaves proof.now.inactive_peaks) }
-    ensures count { proof.now.leaves ≡ size → proof.now.inactive_peaks ≡ 0 → length proof.now.digests ≢ needed size start (length items.now) → result ≡ Err (RangeFault.Count (needed size start (length items.now))) }
-    ensures root { proof.now.leaves ≡ size → proof.now.inactive_peaks ≡ 0 → length proof.now.digests ≡ needed size start (length items.now) → range_root H.digest size start (map T.spelling items.now) proof.now.digests ≢ root.now → result ≡ Err (RangeFault.Root (range_root H.digest size start (map T.spelling items.now) proof.now.digests)) }
-    ensures ok { IsOk result ↔ RangeOk H.digest root.now proof.now.leaves proof.now.inactive_peaks proof.now.digests size start (map T.spelling items.now) }
+    ensures wrong_size { ((proof.now.leaves ≢ size) ⊎ (proof.now.inactive_peaks ≢ 0))
+        → result ≡ Err (RangeFault.WrongSize proof.now.leaves proof.now.inactive_peaks) }
+    ensures count { proof.now.leaves ≡ size → proof.now.inactive_peaks ≡ 0
+        → length proof.now.digests ≢ needed size start (length items.now)
+        → result ≡ Err (RangeFault.Count (needed size start (length items.now))) }
+    ensures root { proof.now.leaves ≡ size → proof.now.inactive_peaks ≡ 0
+        → length proof.now.digests ≡ needed size start (length items.now)
+        → range_root H.digest size start (map T.spelling items.now) proof.now.digests ≢ root.now
+        → result ≡ Err (RangeFault.Root (range_root H.digest size start (map T.spelling items.now)
+        proof.now.digests)) }
+    ensures ok { IsOk result ↔ RangeOk H.digest root.now proof.now.leaves proof.now.inactive_peaks
+        proof.now.digests size start (map T.spelling items.now) }
 {
     if proof.leaves != size || proof.inactive_peaks != 0 {
         return Err(RangeFault::WrongSize {

@@ -175,7 +175,8 @@ fn refuses_other_proofs(rt: HostRuntime) -> Result<(), OutOfMemory> {
 fn drop_five<H: Hasher>(list: &mut MerkleList<H>) -> Result<(), OutOfMemory>
     requires front { list.old.front ≡ 0 }
     requires size { list_size list.old ≡ 12 }
-    ensures proof { OnOk result (proof_digests H.digest list.new 12 5 3 ≡ proof_digests H.digest list.old 12 5 3) }
+    ensures proof { OnOk result (proof_digests H.digest list.new 12 5 3
+        ≡ proof_digests H.digest list.old 12 5 3) }
     ensures peaks { OnOk result (peaks_at H.digest list.new 7 ≡ peaks_at H.digest list.old 7) }
 {
     list.prune(at(5))?;

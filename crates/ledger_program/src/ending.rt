@@ -17,7 +17,8 @@ use ledger_transfers::Sequenced;
 /// Writes a text.
 fn write_text<K: Sink>(text: &str, out: &mut K) -> Result<(), RunFault>
     ensures wrote { OnOk result (Appends (K.written out.old) (K.written out.new) text.now) }
-    ensures fails { IfErr result (WriteFails (K.written out.old) (K.written out.new) text.now (K.faults out.old) (K.faults out.new)) }
+    ensures fails { IfErr result (WriteFails (K.written out.old) (K.written out.new) text.now
+        (K.faults out.old) (K.faults out.new)) }
     ensures later { K.faults out.old ≤ K.faults out.new }
 {
     match write_all(out, text.as_bytes()) {
@@ -44,7 +45,8 @@ pub fn refused<K: Sink>(fault: RunFault, out: &mut K) -> Outcome
     ensures report { result.report ≡ None }
     ensures fault { result.fault ≡ Some fault }
     ensures wrote { Wrote (K.written out.old) (K.written out.new) None (Some fault) }
-    ensures line { LineOut K.grows (K.written out.old) (K.written out.new) (K.faults out.old) (K.faults out.new) None fault }
+    ensures line { LineOut K.grows (K.written out.old) (K.written out.new) (K.faults out.old)
+        (K.faults out.new) None fault }
 {
     write_line(&fault, out);
     Outcome {
@@ -58,7 +60,8 @@ pub fn refused<K: Sink>(fault: RunFault, out: &mut K) -> Outcome
 pub fn starved<K: Sink>(out: &mut K) -> Outcome
     ensures status { result.status ≡ status_of (Some OutOfMemory) }
     ensures fault { result.fault ≡ Some OutOfMemory }
-    ensures line { LineOut K.grows (K.written out.old) (K.written out.new) (K.faults out.old) (K.faults out.new) None OutOfMemory }
+    ensures line { LineOut K.grows (K.written out.old) (K.written out.new) (K.faults out.old)
+        (K.faults out.new) None OutOfMemory }
 {
     refused(RunFault::OutOfMemory, out)
 }
@@ -68,8 +71,10 @@ pub fn unprinted<K: Sink>(report: Report<Sequenced>, out: &mut K) -> Outcome
     ensures status { result.status ≡ status_of (Some OutOfMemory) }
     ensures report { result.report ≡ Some report }
     ensures fault { result.fault ≡ Some OutOfMemory }
-    ensures wrote { (text : List ℕ) → WroteText (K.written out.old) (K.written out.new) text (Some OutOfMemory) }
-    ensures line { (text : List ℕ) → LineBehind K.grows (K.written out.old) (K.written out.new) (K.faults out.old) (K.faults out.new) text OutOfMemory }
+    ensures wrote { (text : List ℕ) → WroteText (K.written out.old) (K.written out.new) text
+        (Some OutOfMemory) }
+    ensures line { (text : List ℕ) → LineBehind K.grows (K.written out.old) (K.written out.new)
+        (K.faults out.old) (K.faults out.new) text OutOfMemory }
 {
     write_line(&RunFault::OutOfMemory, out);
     Outcome {
@@ -86,8 +91,8 @@ pub fn printed<K: Sink>(report: Report<Sequenced>, text: &str, out: &mut K) -> O
     ensures fault { IfSome result.fault IsLate }
     ensures wrote { WroteText (K.written out.old) (K.written out.new) text.now result.fault }
     ensures output { result.fault ≡ Some Output → Rose (K.faults out.old) (K.faults out.new) }
-    ensures line { IfSome result.fault
-        (LineBehind K.grows (K.written out.old) (K.written out.new) (K.faults out.old) (K.faults out.new) text.now) }
+    ensures line { IfSome result.fault (LineBehind K.grows (K.written out.old) (K.written out.new)
+        (K.faults out.old) (K.faults out.new) text.now) }
 {
     let fault = match write_text(text, out) {
         Ok(()) => {

@@ -41,8 +41,8 @@ pub fn number_line<K: Sink>(out: &mut K, words: &str, number: u64) -> Result<(),
 /// The line of a word, a number, which is that of a block or a place, and a text, which is that of a key or a place.
 fn text_line<K: Sink>(out: &mut K, word: &str, number: u64, text: &[u8]) -> Result<(), SinkError>
     ensures { Writes K.grows (K.written out.old) (K.written out.new) (K.faults out.old) (K.faults out.new)
-        (concat (codes "error " ∷ word.now ∷ codes " " ∷ decimal number ∷ codes " " ∷ text.now ∷ codes "\n" ∷ []))
-        result }
+        (concat (codes "error " ∷ word.now ∷ codes " " ∷ decimal number ∷ codes " " ∷ text.now ∷ codes "\n"
+        ∷ [])) result }
 {
     let mut digits = [0; 20];
     let number = decimal_digits(number, &mut digits);

@@ -72,7 +72,8 @@ pub fn follow<
     link: &mut L,
     strategy: &St,
 ) -> Result<Report<A>, Fault>
-    ensures report { IfOk result (λ report. ReportOf (meaning T.changes_of A.eq A.rules A.values) report.target blocks.now report) }
+    ensures report { IfOk result (λ report. ReportOf (meaning T.changes_of A.eq A.rules A.values)
+        report.target blocks.now report) }
     ensures follows { IfOk result (Follows (meaning T.changes_of A.eq A.rules A.values)
         (beginning target.now (Ts.answers updates.old) limits.now (L.wire link.old) (L.faults link.old))
         (Ts.answers updates.new) (L.wire link.new) blocks.now) }
@@ -80,9 +81,10 @@ pub fn follow<
     ensures fails { IfErr result (FollowFails (meaning T.changes_of A.eq A.rules A.values)
         (beginning target.now (Ts.answers updates.old) limits.now (L.wire link.old) (L.faults link.old))
         (Ts.answers updates.new) (L.wire link.new) (L.faults link.new) blocks.now) }
-    ensures one_way { SessionLaws
-        (beginning target.now (Ts.answers updates.old) limits.now (L.wire link.old) (L.faults link.old)).rules
-        (beginning target.now (Ts.answers updates.old) limits.now (L.wire link.old) (L.faults link.old)).start }
+    ensures one_way { SessionLaws (beginning target.now (Ts.answers updates.old) limits.now
+        (L.wire link.old) (L.faults link.old)).rules
+        (beginning target.now (Ts.answers updates.old) limits.now (L.wire link.old)
+        (L.faults link.old)).start }
     ensures serving { (held : LogData) (synced : Target)
         → (h : Serves any_spelling IsSoundAny held target.now)
         → OwesNothing held (L.service link.old)
@@ -101,7 +103,8 @@ pub fn follow<
         → Foretold h.log target.now (Ts.answers updates.old) (Ts.answers updates.new) synced
         → OnOk result (OwesNothing held (L.service link.new)) }
     ensures exact_count { IsTrue L.exact → LeavesCount result (L.faults link.old) (L.faults link.new) }
-    ensures steady_on { L.steady link.old → L.steady link.new × IsSteady result (L.faults link.old) (L.faults link.new) }
+    ensures steady_on { L.steady link.old → L.steady link.new
+        × IsSteady result (L.faults link.old) (L.faults link.new) }
 {
     let mut machine = Machine::<AnyOp>::new(alloc, Generator::new());
     // Its type keeps it small, so that request numbers don't run out.

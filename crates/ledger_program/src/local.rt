@@ -43,7 +43,8 @@ fn target_of(log: &Log<AnyFamily, Sha256Hasher>) -> Target
 /// A link that serves the log, reply by reply, and whose calls don't fail.
 fn link_to(alloc: Global, log: Log<AnyFamily, Sha256Hasher>) -> MemoryLink<AnyFamily>
     ensures steady { result.calls.failing ≡ [] }
-    ensures serves { OwesNothing (data_of any_spelling any_floor log) (service_of result.lost (service_told any_spelling any_floor result)) }
+    ensures serves { OwesNothing (data_of any_spelling any_floor log)
+        (service_of result.lost (service_told any_spelling any_floor result)) }
 {
     let order = Vec::new(alloc);
     let cuts = Vec::new(alloc);
@@ -81,8 +82,10 @@ pub fn follow_opened<R: RandomSource + Threads + Sync, St: Strategy>(
     blocks: List<Block<Payment>>,
     strategy: &St,
 ) -> Result<Report<Sequenced>, RunFault>
-    ensures reports { IfOk result (λ report. (job : Job) → job.opens ≡ opens → job.blocks ≡ blocks → ReportsJob job report) }
-    ensures fails { IfErr result (λ fault. (job : Job) → job.opens ≡ opens → job.blocks ≡ blocks → LocalFails job fault) }
+    ensures reports { IfOk result (λ report. (job : Job) → job.opens ≡ opens → job.blocks ≡ blocks
+        → ReportsJob job report) }
+    ensures fails { IfErr result (λ fault. (job : Job) → job.opens ≡ opens → job.blocks ≡ blocks
+        → LocalFails job fault) }
 {
     let ops = served(alloc, opens.as_slice())?;
     drop(opens);

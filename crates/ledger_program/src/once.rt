@@ -42,7 +42,8 @@ pub(crate) fn follow_once<
     mut link: L,
     strategy: &St,
 ) -> Result<Report<A>, Fault>
-    ensures report { IfOk result (λ report. ReportOf (meaning T.changes_of A.eq A.rules A.values) report.target blocks.now report) }
+    ensures report { IfOk result (λ report. ReportOf (meaning T.changes_of A.eq A.rules A.values)
+        report.target blocks.now report) }
     ensures serving { (held : LogData) (synced : Target)
         → (h : Serves any_spelling IsSoundAny held target.now)
         → OwesNothing held (L.service link)

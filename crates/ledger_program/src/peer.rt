@@ -38,10 +38,11 @@ fn follow_linked<R: RandomSource + Threads + Sync, L: Link, St: Strategy>(
     strategy: &St,
 ) -> Result<Report<Sequenced>, RunFault>
     requires { job.target ≡ Some target.now }
-    ensures reports { IfOk result (ReportsPeer job
-        (link_over (L.service link.old) (L.wire link.old) (L.wire link.new) (L.faults link.old) (L.faults link.new))) }
+    ensures reports { IfOk result (ReportsPeer job (link_over (L.service link.old) (L.wire link.old)
+        (L.wire link.new) (L.faults link.old) (L.faults link.new))) }
     ensures fails { IfErr result (FollowPeerFails job
-        (link_over (L.service link.old) (L.wire link.old) (L.wire link.new) (L.faults link.old) (L.faults link.new))) }
+        (link_over (L.service link.old) (L.wire link.old) (L.wire link.new) (L.faults link.old)
+        (L.faults link.new))) }
 {
     let limits = limits_of(job.limits);
     let mut updates = ListTargets::new(job.updates.into_vec());
@@ -71,11 +72,11 @@ pub(crate) fn follow_peer<R: RandomSource + Threads + Sync, D: Dialer, St: Strat
     strategy: &St,
 ) -> Result<Report<Sequenced>, RunFault>
     requires { is_some job.target ≡ true }
-    ensures reports { IfOk result (ReportsPeer job
-        (link_over (D.service dialer.old) (D.wire dialer.old) (D.wire dialer.new) (D.faults dialer.old) (D.faults dialer.new))) }
-    ensures fails { IfErr result (PeerFails job
-        (link_over (D.service dialer.old) (D.wire dialer.old) (D.wire dialer.new) (D.faults dialer.old) (D.faults dialer.new))
-        (D.dials dialer.old) (D.dials dialer.new)) }
+    ensures reports { IfOk result (ReportsPeer job (link_over (D.service dialer.old) (D.wire dialer.old)
+        (D.wire dialer.new) (D.faults dialer.old) (D.faults dialer.new))) }
+    ensures fails { IfErr result (PeerFails job (link_over (D.service dialer.old) (D.wire dialer.old)
+        (D.wire dialer.new) (D.faults dialer.old) (D.faults dialer.new)) (D.dials dialer.old)
+        (D.dials dialer.new)) }
 {
     let target = target_of(&job);
     match dialer.dial(address) {

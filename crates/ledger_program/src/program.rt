@@ -34,7 +34,8 @@ fn read_job<S: Source>(alloc: Global, kind: JobKind, source: &mut S) -> Result<J
     ensures job { IfOk result (λ job. IfSome (S.left source.old) (λ text. IsJob kind text job)) }
     ensures targeted { IfOk result (λ job. lacks_target kind (is_some job.target) ≡ false) }
     ensures ended { OnOk result (IsAtEnd (S.left source.new)) }
-    ensures fails { IfErr result (ReadFails kind (S.left source.old) (S.faults source.old) (S.faults source.new)) }
+    ensures fails { IfErr result (ReadFails kind (S.left source.old) (S.faults source.old)
+        (S.faults source.new)) }
     ensures read { IfErr result (λ fault. is_read (Some fault) ≡ true → IsAtEnd (S.left source.new)) }
     ensures later { S.faults source.old ≤ S.faults source.new }
 {
@@ -62,11 +63,11 @@ fn follow_by<R: RandomSource + Threads + Sync, D: Dialer, St: Strategy>(
     strategy: &St,
 ) -> Result<Report<Sequenced>, RunFault>
     requires { lacks_target kind (is_some job.target) ≡ false }
-    ensures reports { IfOk result (Reports kind job
-        (link_over (D.service dialer.old) (D.wire dialer.old) (D.wire dialer.new) (D.faults dialer.old) (D.faults dialer.new))) }
+    ensures reports { IfOk result (Reports kind job (link_over (D.service dialer.old) (D.wire dialer.old)
+        (D.wire dialer.new) (D.faults dialer.old) (D.faults dialer.new))) }
     ensures fails { IfErr result (JobFails kind job
-        (link_over (D.service dialer.old) (D.wire dialer.old) (D.wire dialer.new) (D.faults dialer.old) (D.faults dialer.new))
-        (D.dials dialer.old) (D.dials dialer.new)) }
+        (link_over (D.service dialer.old) (D.wire dialer.old) (D.wire dialer.new) (D.faults dialer.old)
+        (D.faults dialer.new)) (D.dials dialer.old) (D.dials dialer.new)) }
     ensures undialed { kind ≡ local_kind → dialer.new ≡ dialer.old }
 {
     match kind {
@@ -86,11 +87,11 @@ fn follow_job<R: RandomSource + Threads + Sync, D: Dialer>(
     workers: Option<Workers>,
 ) -> Result<Report<Sequenced>, RunFault>
     requires { lacks_target kind (is_some job.target) ≡ false }
-    ensures reports { IfOk result (Reports kind job
-        (link_over (D.service dialer.old) (D.wire dialer.old) (D.wire dialer.new) (D.faults dialer.old) (D.faults dialer.new))) }
+    ensures reports { IfOk result (Reports kind job (link_over (D.service dialer.old) (D.wire dialer.old)
+        (D.wire dialer.new) (D.faults dialer.old) (D.faults dialer.new))) }
     ensures fails { IfErr result (JobFails kind job
-        (link_over (D.service dialer.old) (D.wire dialer.old) (D.wire dialer.new) (D.faults dialer.old) (D.faults dialer.new))
-        (D.dials dialer.old) (D.dials dialer.new)) }
+        (link_over (D.service dialer.old) (D.wire dialer.old) (D.wire dialer.new) (D.faults dialer.old)
+        (D.faults dialer.new)) (D.dials dialer.old) (D.dials dialer.new)) }
     ensures undialed { kind ≡ local_kind → dialer.new ≡ dialer.old }
 {
     match workers {
@@ -109,14 +110,17 @@ fn attempt<R: RandomSource + Threads + Sync, S: Source, D: Dialer>(
 ) -> Result<Report<Sequenced>, RunFault>
     ensures form { OnOk result (is_some (form_of (map string_bytes words.now)) ≡ true) }
     ensures followed { IfOk result (Followed (form_of (map string_bytes words.now)) (S.left source.old)
-        (link_over (D.service dialer.old) (D.wire dialer.old) (D.wire dialer.new) (D.faults dialer.old) (D.faults dialer.new))) }
+        (link_over (D.service dialer.old) (D.wire dialer.old) (D.wire dialer.new) (D.faults dialer.old)
+        (D.faults dialer.new))) }
     ensures ended { OnOk result (IsAtEnd (S.left source.new)) }
-    ensures fails { IfErr result (Attempted (form_of (map string_bytes words.now)) (S.left source.old) (S.faults source.old) (S.faults source.new)
-        (D.dials dialer.old) (D.dials dialer.new)
-        (link_over (D.service dialer.old) (D.wire dialer.old) (D.wire dialer.new) (D.faults dialer.old) (D.faults dialer.new))) }
+    ensures fails { IfErr result (Attempted (form_of (map string_bytes words.now)) (S.left source.old)
+        (S.faults source.old) (S.faults source.new) (D.dials dialer.old) (D.dials dialer.new)
+        (link_over (D.service dialer.old) (D.wire dialer.old) (D.wire dialer.new) (D.faults dialer.old)
+        (D.faults dialer.new))) }
     ensures read { IfErr result (λ fault. is_read (Some fault) ≡ true → IsAtEnd (S.left source.new)) }
     ensures unread { form_of (map string_bytes words.now) ≡ None → source.new ≡ source.old }
-    ensures undialed { (form_of (map string_bytes words.now) ≡ Some follow_kind → ⊥) → dialer.new ≡ dialer.old }
+    ensures undialed { (form_of (map string_bytes words.now) ≡ Some follow_kind → ⊥)
+        → dialer.new ≡ dialer.old }
     ensures early { IfErr result (λ fault. is_undialed (Some fault) ≡ true → dialer.new ≡ dialer.old) }
 {
     let Some(kind) = form_of(words) else {
@@ -140,8 +144,8 @@ fn reported<K: Sink>(alloc: Global, report: Report<Sequenced>, out: &mut K) -> O
     ensures fault { IfSome result.fault IsLate }
     ensures wrote { Wrote (K.written out.old) (K.written out.new) (Some report) result.fault }
     ensures output { result.fault ≡ Some Output → Rose (K.faults out.old) (K.faults out.new) }
-    ensures line { IfSome result.fault
-        (LineOut K.grows (K.written out.old) (K.written out.new) (K.faults out.old) (K.faults out.new) (Some report)) }
+    ensures line { IfSome result.fault (LineOut K.grows (K.written out.old) (K.written out.new)
+        (K.faults out.old) (K.faults out.new) (Some report)) }
 {
     match report_text(alloc, &report) {
         Ok(text) => printed(report, text.as_str(), out),
@@ -160,19 +164,23 @@ fn act<R: RandomSource + Threads + Sync, S: Source, D: Dialer, K: Sink>(
     out: &mut K,
 ) -> Outcome
     ensures status { result.status ≡ status_of result.fault }
-    ensures followed { IfSome result.report (Followed (form_of (map string_bytes words.now)) (S.left job.old)
-        (link_over (D.service dialer.old) (D.wire dialer.old) (D.wire dialer.new) (D.faults dialer.old) (D.faults dialer.new))) }
+    ensures followed { IfSome result.report (Followed (form_of (map string_bytes words.now))
+        (S.left job.old) (link_over (D.service dialer.old) (D.wire dialer.old) (D.wire dialer.new)
+        (D.faults dialer.old) (D.faults dialer.new))) }
     ensures reported { has_report result.fault ≡ true → IsSome result.report }
-    ensures unreported { IfSome result.fault (λ fault. IsEarly fault → (result.status ≡ 11) ⊎ (result.report ≡ None)) }
-    ensures caused { IfSome result.fault (Caused (form_of (map string_bytes words.now)) (S.left job.old) (S.faults job.old) (S.faults job.new) (K.faults out.old) (K.faults out.new)
-        (D.dials dialer.old) (D.dials dialer.new)
-        (link_over (D.service dialer.old) (D.wire dialer.old) (D.wire dialer.new) (D.faults dialer.old) (D.faults dialer.new))) }
+    ensures unreported { IfSome result.fault (λ fault. IsEarly fault → (result.status ≡ 11)
+        ⊎ (result.report ≡ None)) }
+    ensures caused { IfSome result.fault (Caused (form_of (map string_bytes words.now)) (S.left job.old)
+        (S.faults job.old) (S.faults job.new) (K.faults out.old) (K.faults out.new) (D.dials dialer.old)
+        (D.dials dialer.new) (link_over (D.service dialer.old) (D.wire dialer.old) (D.wire dialer.new)
+        (D.faults dialer.old) (D.faults dialer.new))) }
     ensures read { is_read result.fault ≡ true → IsAtEnd (S.left job.new) }
     ensures wrote { Wrote (K.written out.old) (K.written out.new) result.report result.fault }
-    ensures line { IfSome result.fault
-        (LineOut K.grows (K.written out.old) (K.written out.new) (K.faults out.old) (K.faults out.new) result.report) }
+    ensures line { IfSome result.fault (LineOut K.grows (K.written out.old) (K.written out.new)
+        (K.faults out.old) (K.faults out.new) result.report) }
     ensures unread { form_of (map string_bytes words.now) ≡ None → job.new ≡ job.old }
-    ensures undialed { (form_of (map string_bytes words.now) ≡ Some follow_kind → ⊥) → dialer.new ≡ dialer.old }
+    ensures undialed { (form_of (map string_bytes words.now) ≡ Some follow_kind → ⊥)
+        → dialer.new ≡ dialer.old }
     ensures early { is_undialed result.fault ≡ true → dialer.new ≡ dialer.old }
 {
     match attempt(rt, alloc, words, job, dialer) {
@@ -194,22 +202,27 @@ pub fn run<R: RandomSource + Threads + Sync, S: Source, D: Dialer, K: Sink>(
 ) -> Outcome
     ensures status { result.status ≡ status_of result.fault }
     ensures usage { (result.status == 2) ≡ not (is_some (form_of (map string_bytes words.now))) }
-    ensures complete { Completes (form_of (map string_bytes words.now)) (S.left job.old) (S.faults job.old) (S.faults job.new) (K.faults out.old) (K.faults out.new)
-        (D.dials dialer.old) (D.dials dialer.new)
-        (link_over (D.service dialer.old) (D.wire dialer.old) (D.wire dialer.new) (D.faults dialer.old) (D.faults dialer.new)) result.status }
-    ensures followed { IfSome result.report (Followed (form_of (map string_bytes words.now)) (S.left job.old)
-        (link_over (D.service dialer.old) (D.wire dialer.old) (D.wire dialer.new) (D.faults dialer.old) (D.faults dialer.new))) }
+    ensures complete { Completes (form_of (map string_bytes words.now)) (S.left job.old) (S.faults job.old)
+        (S.faults job.new) (K.faults out.old) (K.faults out.new) (D.dials dialer.old) (D.dials dialer.new)
+        (link_over (D.service dialer.old) (D.wire dialer.old) (D.wire dialer.new) (D.faults dialer.old)
+        (D.faults dialer.new)) result.status }
+    ensures followed { IfSome result.report (Followed (form_of (map string_bytes words.now))
+        (S.left job.old) (link_over (D.service dialer.old) (D.wire dialer.old) (D.wire dialer.new)
+        (D.faults dialer.old) (D.faults dialer.new))) }
     ensures reported { has_report result.fault ≡ true → IsSome result.report }
-    ensures unreported { IfSome result.fault (λ fault. IsEarly fault → (result.status ≡ 11) ⊎ (result.report ≡ None)) }
-    ensures caused { IfSome result.fault (Caused (form_of (map string_bytes words.now)) (S.left job.old) (S.faults job.old) (S.faults job.new) (K.faults out.old) (K.faults out.new)
-        (D.dials dialer.old) (D.dials dialer.new)
-        (link_over (D.service dialer.old) (D.wire dialer.old) (D.wire dialer.new) (D.faults dialer.old) (D.faults dialer.new))) }
+    ensures unreported { IfSome result.fault (λ fault. IsEarly fault → (result.status ≡ 11)
+        ⊎ (result.report ≡ None)) }
+    ensures caused { IfSome result.fault (Caused (form_of (map string_bytes words.now)) (S.left job.old)
+        (S.faults job.old) (S.faults job.new) (K.faults out.old) (K.faults out.new) (D.dials dialer.old)
+        (D.dials dialer.new) (link_over (D.service dialer.old) (D.wire dialer.old) (D.wire dialer.new)
+        (D.faults dialer.old) (D.faults dialer.new))) }
     ensures read { is_read result.fault ≡ true → IsAtEnd (S.left job.new) }
     ensures wrote { Wrote (K.written out.old) (K.written out.new) result.report result.fault }
-    ensures line { IfSome result.fault
-        (LineOut K.grows (K.written out.old) (K.written out.new) (K.faults out.old) (K.faults out.new) result.report) }
+    ensures line { IfSome result.fault (LineOut K.grows (K.written out.old) (K.written out.new)
+        (K.faults out.old) (K.faults out.new) result.report) }
     ensures unread { form_of (map string_bytes words.now) ≡ None → job.new ≡ job.old }
-    ensures undialed { (form_of (map string_bytes words.now) ≡ Some follow_kind → ⊥) → dialer.new ≡ dialer.old }
+    ensures undialed { (form_of (map string_bytes words.now) ≡ Some follow_kind → ⊥)
+        → dialer.new ≡ dialer.old }
     ensures early { is_undialed result.fault ≡ true → dialer.new ≡ dialer.old }
 {
     act(rt, alloc, words, job, dialer, out)

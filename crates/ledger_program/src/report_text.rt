@@ -102,7 +102,8 @@ fn push_account(
     key: &Key,
     account: &Sequenced,
 ) -> Result<(), AllocError>
-    ensures { OnOk result (string_bytes out.new ≡ string_bytes out.old ++ account_line (key.now, account.now)) }
+    ensures { OnOk result (string_bytes out.new ≡ string_bytes out.old
+        ++ account_line (key.now, account.now)) }
 {
     let name = key_text(alloc, key)?;
     let balance = account.balance;
@@ -115,7 +116,8 @@ fn push_accounts(
     out: &mut String,
     accounts: &Accounts<Sequenced>,
 ) -> Result<(), AllocError>
-    ensures { OnOk result (string_bytes out.new ≡ string_bytes out.old ++ flat_map account_line accounts.now.entries) }
+    ensures { OnOk result (string_bytes out.new ≡ string_bytes out.old
+        ++ flat_map account_line accounts.now.entries) }
 {
     'accounts: for (key, account) in accounts {
         push_account(alloc, out, key, account)?;

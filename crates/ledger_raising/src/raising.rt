@@ -37,12 +37,21 @@ pub fn raise<F: RaisingFamily, H: Hasher>(
     requires low { floor ≤ log_size log.now + length missing.now }
     requires room { log_size log.now + length missing.now ≤ 2 ^ 62 }
     requires writes { All (λ op. IsSome (F.write_of op)) changes.now }
-    ensures ok { IfOk result (λ batch. batch.ops.items ≡ raised F.floor_of F.write_of F.commit_of (with_ops log.now missing.now) changes.now metadata) }
-    ensures floor { IfOk result (λ batch. log_floor F.floor_of (with_ops (with_ops log.now missing.now) batch.ops.items) ≡ batch.floor) }
-    ensures room { IfOk result (λ batch. log_size log.now + length missing.now + length batch.ops.items ≤ 2 ^ 62) }
-    ensures may { OnOk result (append_refusal F.floor_of (with_ops log.now missing.now) (raised F.floor_of F.write_of F.commit_of (with_ops log.now missing.now) changes.now metadata) ≡ None) }
-    ensures refuses { IfErr result (λ e. (e ≡ LogFault.OutOfMemory) ⊎ (append_refusal F.floor_of (with_ops log.now missing.now) (raised F.floor_of F.write_of F.commit_of (with_ops log.now missing.now) changes.now metadata) ≡ Some e)) }
-    ensures law { IfOk result (λ batch. Raises F.floor_of F.write_of (with_ops log.now missing.now) changes.now batch.ops.items) }
+    ensures ok { IfOk result (λ batch. batch.ops.items
+        ≡ raised F.floor_of F.write_of F.commit_of (with_ops log.now missing.now) changes.now metadata) }
+    ensures floor { IfOk result (λ batch. log_floor F.floor_of
+        (with_ops (with_ops log.now missing.now) batch.ops.items) ≡ batch.floor) }
+    ensures room { IfOk result (λ batch. log_size log.now + length missing.now + length batch.ops.items
+        ≤ 2 ^ 62) }
+    ensures may { OnOk result (append_refusal F.floor_of (with_ops log.now missing.now)
+        (raised F.floor_of F.write_of F.commit_of (with_ops log.now missing.now) changes.now metadata)
+        ≡ None) }
+    ensures refuses { IfErr result (λ e. (e ≡ LogFault.OutOfMemory)
+        ⊎ (append_refusal F.floor_of (with_ops log.now missing.now)
+        (raised F.floor_of F.write_of F.commit_of (with_ops log.now missing.now) changes.now metadata)
+        ≡ Some e)) }
+    ensures law { IfOk result (λ batch. Raises F.floor_of F.write_of (with_ops log.now missing.now)
+        changes.now batch.ops.items) }
 {
     let size = log.size().get() + missing.len() as u64;
     let full = LogFault::Full {
@@ -72,7 +81,8 @@ fn copies_of<F: RaisingFamily, H: Hasher>(
     requires floor { log_floor F.floor_of (with_ops log.now missing.now) ≡ floor }
     requires room { log_size log.now + length missing.now + length changes.now ≤ 2 ^ 62 }
     ensures may { IsOkUnless result LogFault.OutOfMemory }
-    ensures ok { IfOk result (λ ops. ops.items ≡ copies F.floor_of F.write_of (with_ops log.now missing.now) changes.now) }
+    ensures ok { IfOk result (λ ops. ops.items ≡ copies F.floor_of F.write_of (with_ops log.now missing.now)
+        changes.now) }
 {
     let size = log.size().get() + missing.len() as u64;
     let behind = joined(alloc, missing, changes)?;
@@ -91,7 +101,8 @@ fn floor_after<F: RaisingFamily, H: Hasher>(
     requires floor { log_floor F.floor_of (with_ops log.now missing.now) ≡ floor }
     requires room { log_size log.now + length missing.now + length ops.now ≤ 2 ^ 62 }
     ensures may { IsOkUnless result LogFault.OutOfMemory }
-    ensures ok { IfOk result (λ next. next ≡ next_floor F.floor_of F.write_of (with_ops log.now missing.now) ops.now) }
+    ensures ok { IfOk result (λ next. next ≡ next_floor F.floor_of F.write_of (with_ops log.now missing.now)
+        ops.now) }
 {
     let end = log.size().get() + missing.len() as u64 + ops.len() as u64;
     let behind = joined(alloc, missing, ops)?;

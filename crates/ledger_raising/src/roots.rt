@@ -25,7 +25,8 @@ pub fn root_behind<F: Family, H: Hasher>(
 /// The peaks of all operations of the log.
 fn peaks_of<F: Family, H: Hasher>(alloc: Global, log: &Log<F, H>) -> Result<Peaks<H>, OutOfMemory>
     ensures size { IfOk result (λ peaks. peaks.size ≡ log_size log.now) }
-    ensures nodes { IfOk result (λ peaks. peaks.nodes ≡ log_peaks_at H.digest F.Op.spelling log.now (log_size log.now)) }
+    ensures nodes { IfOk result (λ peaks. peaks.nodes
+        ≡ log_peaks_at H.digest F.Op.spelling log.now (log_size log.now)) }
 {
     let size = log.size();
     let Ok(nodes) = log.pinned_nodes_at(size) else {

@@ -24,8 +24,8 @@ pub(crate) fn finish<R: Threads + Wait, Sp: Spawner, K: Sink>(
     ensures started { OnOk result (Sp.started spawner.new ≡ count) }
     ensures joined { OnOk result (Sp.joined spawner.new ≡ count) }
     ensures wrote { OnOk result (Appends (K.written out.old) (K.written out.new) (sessions_line count)) }
-    ensures fails { IfErr result (FinishFails started count (K.written out.old) (K.written out.new) (K.faults out.old)
-        (K.faults out.new)) }
+    ensures fails { IfErr result (FinishFails started count (K.written out.old) (K.written out.new)
+        (K.faults out.old) (K.faults out.new)) }
     ensures later { K.faults out.old ≤ K.faults out.new }
 {
     spawner.join_all(rt);

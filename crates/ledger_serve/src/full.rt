@@ -214,7 +214,8 @@ fn shared_by<F: Family>(
     requires some { 0 < count }
     requires few { count ≤ 8 }
     ensures opening { IfOk result (λ r. (arc_value r.0).opening ≡ log) }
-    ensures passes { IfOk result (λ r. r.1.items ≡ map (fresh (arc_value r.0).from turns) (range_with_len 0 count)) }
+    ensures passes { IfOk result (λ r. r.1.items ≡ map (fresh (arc_value r.0).from turns)
+        (range_with_len 0 count)) }
     ensures fails { IfErr result (λ fault. fault ≡ memory_wanting) }
 {
     let Ok((log, passes)) = SharedLog::share(alloc, log, count, u32::MAX) else {
@@ -275,11 +276,13 @@ where
     F::Op: Spell + Send + Sync + 'static,
     requires form { Sound form.now }
     requires fresh { Sp.started spawner.old ≡ 0 }
-    ensures served { OnOk result (Served form.now.connections (Li.coming listener.old) (Li.coming listener.new)
-        (Sp.started spawner.new) (Sp.joined spawner.new) (K.written out.old) (K.written out.new)) }
+    ensures served { OnOk result (Served form.now.connections (Li.coming listener.old)
+        (Li.coming listener.new) (Sp.started spawner.new) (Sp.joined spawner.new) (K.written out.old)
+        (K.written out.new)) }
     ensures stops { IfErr result (Stops (Li.faults listener.old) (Li.faults listener.new) (K.faults out.old)
         (K.faults out.new)) }
-    ensures leaves { IfErr result (Leaves (both_lines form.now.connections) (K.written out.old) (K.written out.new)) }
+    ensures leaves { IfErr result (Leaves (both_lines form.now.connections) (K.written out.old)
+        (K.written out.new)) }
     ensures later { K.faults out.old ≤ K.faults out.new }
 {
     let growth = Growth {

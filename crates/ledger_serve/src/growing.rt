@@ -57,9 +57,10 @@ fn grow<R: Wait, F: TestedFamily>(
 ) -> Result<(), RunFault>
     requires count { growth.count ≤ 9 }
     requires few { number < 8 }
-    requires grown { Grown F.floor_of F.commit_of F.test_of F.test_commit_of shared.now.from growth number pass.old }
-    ensures grown { OnOk result (Grown F.floor_of F.commit_of F.test_of F.test_commit_of shared.now.from growth
-        (number + 1) pass.new) }
+    requires grown { Grown F.floor_of F.commit_of F.test_of F.test_commit_of shared.now.from growth number
+        pass.old }
+    ensures grown { OnOk result (Grown F.floor_of F.commit_of F.test_of F.test_commit_of shared.now.from
+        growth (number + 1) pass.new) }
     ensures fails { IfErr result (λ fault. fault ≡ memory_wanting) }
 {
     let seed = growth.seed.wrapping_add(number + 1);
@@ -83,8 +84,8 @@ pub(crate) fn grow_if<R: Wait, F: TestedFamily>(
 ) -> Result<(), RunFault>
     requires count { growth.count ≤ 9 }
     requires few { number < 8 }
-    requires grown { IfSome own.old (Grown F.floor_of F.commit_of F.test_of F.test_commit_of shared.now.from growth
-        number) }
+    requires grown { IfSome own.old (Grown F.floor_of F.commit_of F.test_of F.test_commit_of shared.now.from
+        growth number) }
     ensures same { is_some own.new ≡ is_some own.old }
     ensures grown { OnOk result (IfSome own.new (Grown F.floor_of F.commit_of F.test_of F.test_commit_of
         shared.now.from growth (number + 1))) }

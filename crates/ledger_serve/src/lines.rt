@@ -22,8 +22,8 @@ fn fault_of(fault: SinkError) -> RunFault
 #[tactic(auto, using(crate::proofs::Texts::write_fails))]
 pub(crate) fn write_listening<K: Sink>(out: &mut K) -> Result<(), RunFault>
     ensures wrote { OnOk result (Appends (K.written out.old) (K.written out.new) listening) }
-    ensures fails { IfErr result (WriteFails listening (K.written out.old) (K.written out.new) (K.faults out.old)
-        (K.faults out.new)) }
+    ensures fails { IfErr result (WriteFails listening (K.written out.old) (K.written out.new)
+        (K.faults out.old) (K.faults out.new)) }
     ensures later { K.faults out.old ≤ K.faults out.new }
 {
     match write_all(out, b"listening\n") {

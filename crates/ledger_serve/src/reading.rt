@@ -14,7 +14,8 @@ const MAX_JOB: usize = 67_108_864;
 /// The accounts of the job that a source holds, in the order of their lines.
 pub(crate) fn read_accounts<S: Source>(alloc: Global, source: &mut S) -> Result<Vec<Open>, RunFault>
     ensures job { IfOk result (λ accounts. IfSome (S.left source.old) (λ text. IsJob text accounts.items)) }
-    ensures fails { IfErr result (ReadFails (S.left source.old) (S.faults source.old) (S.faults source.new)) }
+    ensures fails { IfErr result (ReadFails (S.left source.old) (S.faults source.old)
+        (S.faults source.new)) }
 {
     let text = match read_all(alloc, source, MAX_JOB) {
         Ok(text) => text,

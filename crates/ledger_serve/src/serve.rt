@@ -70,12 +70,15 @@ fn serve_job<
 ) -> Result<(), RunFault>
     requires form { Sound form.now }
     requires fresh { Sp.started spawner.old ≡ 0 }
-    ensures job { OnOk result (IfSome (S.left job.old) (λ text. (accounts : Items Opened) × IsJob text accounts)) }
-    ensures served { OnOk result (Served form.now.connections (Li.coming listener.old) (Li.coming listener.new)
-        (Sp.started spawner.new) (Sp.joined spawner.new) (K.written out.old) (K.written out.new)) }
+    ensures job { OnOk result (IfSome (S.left job.old)
+        (λ text. (accounts : Items Opened) × IsJob text accounts)) }
+    ensures served { OnOk result (Served form.now.connections (Li.coming listener.old)
+        (Li.coming listener.new) (Sp.started spawner.new) (Sp.joined spawner.new) (K.written out.old)
+        (K.written out.new)) }
     ensures stops { IfErr result (JobStops (S.left job.old) (S.faults job.old) (S.faults job.new)
         (Li.faults listener.old) (Li.faults listener.new) (K.faults out.old) (K.faults out.new)) }
-    ensures leaves { IfErr result (Leaves (both_lines form.now.connections) (K.written out.old) (K.written out.new)) }
+    ensures leaves { IfErr result (Leaves (both_lines form.now.connections) (K.written out.old)
+        (K.written out.new)) }
     ensures later { K.faults out.old ≤ K.faults out.new }
 {
     let log = match log_of_job(alloc, job) {
@@ -113,9 +116,11 @@ fn serve_asked<
     ensures served { OnOk result (ServedAs (Some form.now) (S.left job.old) (Li.coming listener.old)
         (Li.coming listener.new) (Sp.started spawner.new) (Sp.joined spawner.new) (K.written out.old)
         (K.written out.new)) }
-    ensures caused { IfErr result (Caused (Some form.now) (S.left job.old) (S.faults job.old) (S.faults job.new)
-        (Li.faults listener.old) (Li.faults listener.new) (K.faults out.old) (K.faults out.new)) }
-    ensures leaves { IfErr result (Leaves (both_lines form.now.connections) (K.written out.old) (K.written out.new)) }
+    ensures caused { IfErr result (Caused (Some form.now) (S.left job.old) (S.faults job.old)
+        (S.faults job.new) (Li.faults listener.old) (Li.faults listener.new) (K.faults out.old)
+        (K.faults out.new)) }
+    ensures leaves { IfErr result (Leaves (both_lines form.now.connections) (K.written out.old)
+        (K.written out.new)) }
     ensures later { K.faults out.old ≤ K.faults out.new }
     ensures unread { reads_job (Some form.now) ≡ false → job.new ≡ job.old }
 {
@@ -154,10 +159,11 @@ fn serve_words<
     ensures served { OnOk result (ServedAs (form_of (map string_bytes words.now)) (S.left job.old)
         (Li.coming listener.old) (Li.coming listener.new) (Sp.started spawner.new) (Sp.joined spawner.new)
         (K.written out.old) (K.written out.new)) }
-    ensures caused { IfErr result (Caused (form_of (map string_bytes words.now)) (S.left job.old) (S.faults job.old)
-        (S.faults job.new) (Li.faults listener.old) (Li.faults listener.new) (K.faults out.old) (K.faults out.new)) }
-    ensures leaves { IfErr result (Leaves (lines_for (form_of (map string_bytes words.now))) (K.written out.old)
-        (K.written out.new)) }
+    ensures caused { IfErr result (Caused (form_of (map string_bytes words.now)) (S.left job.old)
+        (S.faults job.old) (S.faults job.new) (Li.faults listener.old) (Li.faults listener.new)
+        (K.faults out.old) (K.faults out.new)) }
+    ensures leaves { IfErr result (Leaves (lines_for (form_of (map string_bytes words.now)))
+        (K.written out.old) (K.written out.new)) }
     ensures later { K.faults out.old ≤ K.faults out.new }
     ensures unread { reads_job (form_of (map string_bytes words.now)) ≡ false → job.new ≡ job.old }
 {
@@ -216,10 +222,11 @@ fn act<
     out: &mut K,
 ) -> ServeOutcome
     requires { Sp.started spawner.old ≡ 0 }
-    ensures ends { Ends (form_of (map string_bytes words.now)) (S.left job.old) (S.faults job.old) (S.faults job.new)
-        (Li.faults listener.old) (Li.faults listener.new) (Li.coming listener.old) (Li.coming listener.new)
-        (Sp.started spawner.new) (Sp.joined spawner.new) K.grows (K.written out.old) (K.written out.new)
-        (K.faults out.old) (K.faults out.new) result.status result.line }
+    ensures ends { Ends (form_of (map string_bytes words.now)) (S.left job.old) (S.faults job.old)
+        (S.faults job.new) (Li.faults listener.old) (Li.faults listener.new) (Li.coming listener.old)
+        (Li.coming listener.new) (Sp.started spawner.new) (Sp.joined spawner.new) K.grows
+        (K.written out.old) (K.written out.new) (K.faults out.old) (K.faults out.new) result.status
+        result.line }
     ensures unread { reads_job (form_of (map string_bytes words.now)) ≡ false → job.new ≡ job.old }
 {
     match serve_words(rt, alloc, words, job, listener, spawner, gate, out) {
@@ -254,14 +261,15 @@ pub fn run_serve<
     out: &mut K,
 ) -> ServeOutcome
     requires { Sp.started spawner.old ≡ 0 }
-    ensures ends { Ends (form_of (map string_bytes words.now)) (S.left job.old) (S.faults job.old) (S.faults job.new)
-        (Li.faults listener.old) (Li.faults listener.new) (Li.coming listener.old) (Li.coming listener.new)
-        (Sp.started spawner.new) (Sp.joined spawner.new) K.grows (K.written out.old) (K.written out.new)
-        (K.faults out.old) (K.faults out.new) result.status result.line }
+    ensures ends { Ends (form_of (map string_bytes words.now)) (S.left job.old) (S.faults job.old)
+        (S.faults job.new) (Li.faults listener.old) (Li.faults listener.new) (Li.coming listener.old)
+        (Li.coming listener.new) (Sp.started spawner.new) (Sp.joined spawner.new) K.grows
+        (K.written out.old) (K.written out.new) (K.faults out.old) (K.faults out.new) result.status
+        result.line }
     ensures usage { (result.status == 2) ≡ not (is_some (form_of (map string_bytes words.now))) }
     ensures complete { Completes (form_of (map string_bytes words.now)) (S.left job.old) (S.faults job.old)
-        (S.faults job.new) (Li.faults listener.old) (Li.faults listener.new) (K.faults out.old) (K.faults out.new)
-        result.status }
+        (S.faults job.new) (Li.faults listener.old) (Li.faults listener.new) (K.faults out.old)
+        (K.faults out.new) result.status }
     ensures unread { reads_job (form_of (map string_bytes words.now)) ≡ false → job.new ≡ job.old }
 {
     act(rt, alloc, words, job, listener, spawner, gate, out)

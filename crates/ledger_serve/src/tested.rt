@@ -33,8 +33,8 @@ fn log_of<F: TestedFamily>(
     form: &ServeForm,
 ) -> Result<Log<F, Sha256Hasher>, RunFault>
     requires { Sound form.now }
-    ensures log { IfOk result (λ log. log ≡ test_log F.floor_of F.commit_of F.test_of F.test_commit_of F.added_of
-        form.now.initial form.now.seed) }
+    ensures log { IfOk result (λ log. log ≡ test_log F.floor_of F.commit_of F.test_of F.test_commit_of
+        F.added_of form.now.initial form.now.seed) }
     ensures fails { IfErr result (λ fault. fault ≡ memory_wanting) }
 {
     match test_log::<F>(alloc, form.initial as usize, form.seed) {
@@ -50,8 +50,8 @@ fn compact_log_of<F: TestedFamily + CompactExampleFamily>(
 ) -> Result<CompactLog<F, Sha256Hasher>, RunFault>
     requires { Sound form.now }
     ensures log { IfOk result (λ log. compact_of sha256 F.Op.spelling
-        (test_log F.floor_of F.commit_of F.test_of F.test_commit_of F.added_of form.now.initial form.now.seed) ≡ Some
-        log) }
+        (test_log F.floor_of F.commit_of F.test_of F.test_commit_of F.added_of form.now.initial
+        form.now.seed) ≡ Some log) }
     ensures fails { IfErr result (λ fault. fault ≡ memory_wanting) }
 {
     match compact_test_log::<F>(alloc, form.initial as usize, form.seed) {
@@ -82,11 +82,13 @@ where
     F::Op: Spell + Send + Sync + 'static,
     requires form { Sound form.now }
     requires fresh { Sp.started spawner.old ≡ 0 }
-    ensures served { OnOk result (Served form.now.connections (Li.coming listener.old) (Li.coming listener.new)
-        (Sp.started spawner.new) (Sp.joined spawner.new) (K.written out.old) (K.written out.new)) }
+    ensures served { OnOk result (Served form.now.connections (Li.coming listener.old)
+        (Li.coming listener.new) (Sp.started spawner.new) (Sp.joined spawner.new) (K.written out.old)
+        (K.written out.new)) }
     ensures stops { IfErr result (Stops (Li.faults listener.old) (Li.faults listener.new) (K.faults out.old)
         (K.faults out.new)) }
-    ensures leaves { IfErr result (Leaves (both_lines form.now.connections) (K.written out.old) (K.written out.new)) }
+    ensures leaves { IfErr result (Leaves (both_lines form.now.connections) (K.written out.old)
+        (K.written out.new)) }
     ensures later { K.faults out.old ≤ K.faults out.new }
 {
     match log_of::<F>(alloc, form) {
@@ -113,11 +115,13 @@ fn serve_family<
 ) -> Result<(), RunFault>
     requires form { Sound form.now }
     requires fresh { Sp.started spawner.old ≡ 0 }
-    ensures served { OnOk result (Served form.now.connections (Li.coming listener.old) (Li.coming listener.new)
-        (Sp.started spawner.new) (Sp.joined spawner.new) (K.written out.old) (K.written out.new)) }
+    ensures served { OnOk result (Served form.now.connections (Li.coming listener.old)
+        (Li.coming listener.new) (Sp.started spawner.new) (Sp.joined spawner.new) (K.written out.old)
+        (K.written out.new)) }
     ensures stops { IfErr result (Stops (Li.faults listener.old) (Li.faults listener.new) (K.faults out.old)
         (K.faults out.new)) }
-    ensures leaves { IfErr result (Leaves (both_lines form.now.connections) (K.written out.old) (K.written out.new)) }
+    ensures leaves { IfErr result (Leaves (both_lines form.now.connections) (K.written out.old)
+        (K.written out.new)) }
     ensures later { K.faults out.old ≤ K.faults out.new }
 {
     match form.family {
@@ -158,11 +162,13 @@ where
     F::Op: Spell + Send + Sync + 'static,
     requires form { Sound form.now }
     requires fresh { Sp.started spawner.old ≡ 0 }
-    ensures served { OnOk result (Served form.now.connections (Li.coming listener.old) (Li.coming listener.new)
-        (Sp.started spawner.new) (Sp.joined spawner.new) (K.written out.old) (K.written out.new)) }
+    ensures served { OnOk result (Served form.now.connections (Li.coming listener.old)
+        (Li.coming listener.new) (Sp.started spawner.new) (Sp.joined spawner.new) (K.written out.old)
+        (K.written out.new)) }
     ensures stops { IfErr result (Stops (Li.faults listener.old) (Li.faults listener.new) (K.faults out.old)
         (K.faults out.new)) }
-    ensures leaves { IfErr result (Leaves (both_lines form.now.connections) (K.written out.old) (K.written out.new)) }
+    ensures leaves { IfErr result (Leaves (both_lines form.now.connections) (K.written out.old)
+        (K.written out.new)) }
     ensures later { K.faults out.old ≤ K.faults out.new }
 {
     match form.storage {
@@ -214,11 +220,13 @@ fn serve_compact_family<
     requires compact { is_compact_family form.now.family ≡ true }
     requires form { Sound form.now }
     requires fresh { Sp.started spawner.old ≡ 0 }
-    ensures served { OnOk result (Served form.now.connections (Li.coming listener.old) (Li.coming listener.new)
-        (Sp.started spawner.new) (Sp.joined spawner.new) (K.written out.old) (K.written out.new)) }
+    ensures served { OnOk result (Served form.now.connections (Li.coming listener.old)
+        (Li.coming listener.new) (Sp.started spawner.new) (Sp.joined spawner.new) (K.written out.old)
+        (K.written out.new)) }
     ensures stops { IfErr result (Stops (Li.faults listener.old) (Li.faults listener.new) (K.faults out.old)
         (K.faults out.new)) }
-    ensures leaves { IfErr result (Leaves (both_lines form.now.connections) (K.written out.old) (K.written out.new)) }
+    ensures leaves { IfErr result (Leaves (both_lines form.now.connections) (K.written out.old)
+        (K.written out.new)) }
     ensures later { K.faults out.old ≤ K.faults out.new }
 {
     match form.family {
@@ -251,11 +259,13 @@ pub(crate) fn serve_tested<
     requires form { Sound form.now }
     requires compact { form.now.mode ≡ Compact → is_compact_family form.now.family ≡ true }
     requires fresh { Sp.started spawner.old ≡ 0 }
-    ensures served { OnOk result (Served form.now.connections (Li.coming listener.old) (Li.coming listener.new)
-        (Sp.started spawner.new) (Sp.joined spawner.new) (K.written out.old) (K.written out.new)) }
+    ensures served { OnOk result (Served form.now.connections (Li.coming listener.old)
+        (Li.coming listener.new) (Sp.started spawner.new) (Sp.joined spawner.new) (K.written out.old)
+        (K.written out.new)) }
     ensures stops { IfErr result (Stops (Li.faults listener.old) (Li.faults listener.new) (K.faults out.old)
         (K.faults out.new)) }
-    ensures leaves { IfErr result (Leaves (both_lines form.now.connections) (K.written out.old) (K.written out.new)) }
+    ensures leaves { IfErr result (Leaves (both_lines form.now.connections) (K.written out.old)
+        (K.written out.new)) }
     ensures later { K.faults out.old ≤ K.faults out.new }
 {
     match form.mode {

@@ -34,9 +34,11 @@ pub(crate) fn append_slots<A: AccountValue>(
     slots: Vec<Slot<A>>,
 ) -> Result<(), ReportFault>
     requires { IsReplay A.eq A.values accounts.old log.old.ops }
-    ensures grown { OnOk result (log.new ≡ record log.old { ops = with_slots A.values log.old.ops keys.now slots.items }) }
+    ensures grown { OnOk result
+        (log.new ≡ record log.old { ops = with_slots A.values log.old.ops keys.now slots.items }) }
     ensures accounts { OnOk result (IsReplay A.eq A.values accounts.new log.new.ops) }
-    ensures fails { IfErr result (AppendFails log.old block (with_slots A.values log.old.ops keys.now slots.items)) }
+    ensures fails { IfErr result (AppendFails log.old block
+        (with_slots A.values log.old.ops keys.now slots.items)) }
 {
     let mut ops = write_slots(alloc, accounts, keys, slots)?;
     let floor = log.floor();

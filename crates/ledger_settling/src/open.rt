@@ -28,7 +28,8 @@ fn open_log(
 ) -> Result<Log<AnyFamily, Sha256Hasher>, ReportFault>
     requires leaves { list ≡ leaves_of target.now.start list.pinned ops.items }
     requires spans { Spans target.now list.pinned ops.items }
-    ensures log { IfOk result (λ log. log ≡ record { front = target.now.start; pinned = list.pinned; ops = ops.items }) }
+    ensures log { IfOk result
+        (λ log. log ≡ record { front = target.now.start; pinned = list.pinned; ops = ops.items }) }
     ensures whole { OnOk result (IsWhole target.now.start ops.items) }
     ensures fails { IfErr result (OpenFails target.now ops.items) }
 {
@@ -81,8 +82,8 @@ fn settle_blocks<
     requires whole { IsWhole target.now.start log.old.ops }
     requires readable { All (IsReadable A.values) log.old.ops }
     requires replayed { IsReplay A.eq A.values accounts.old log.old.ops }
-    ensures runs { IfOk result (λ verdicts.
-        RunsTo (meaning T.changes_of A.eq A.rules A.values) log.old.ops blocks.now verdicts.items log.new.ops) }
+    ensures runs { IfOk result (λ verdicts. RunsTo (meaning T.changes_of A.eq A.rules A.values) log.old.ops
+        blocks.now verdicts.items log.new.ops) }
     ensures accounts { OnOk result (IsReplay A.eq A.values accounts.new log.new.ops) }
     ensures front { OnOk result (log.new.front ≡ log.old.front) }
     ensures nodes { OnOk result (log.new.pinned ≡ log.old.pinned) }
@@ -120,7 +121,8 @@ fn settle_log<
     requires nodes { opened.pinned ≡ pinned.items }
     requires spans { Spans target.now pinned.items opened.ops }
     requires whole { IsWhole target.now.start opened.ops }
-    ensures report { IfOk result (ReportOf (meaning T.changes_of A.eq A.rules A.values) target.now blocks.now) }
+    ensures report { IfOk result (ReportOf (meaning T.changes_of A.eq A.rules A.values) target.now
+        blocks.now) }
     ensures kept { IfOk result (λ r. r.kept ≡ opened.ops) }
     ensures pinned { IfOk result (λ r. r.pinned ≡ pinned.items) }
     ensures fails { IfErr result
@@ -165,10 +167,12 @@ pub fn report_of<
     requires start { part.start ≡ target.now.start }
     requires spans { Spans target.now part.pinned part.ops }
     requires leaves { list ≡ leaves_of part.start part.pinned part.ops }
-    ensures report { IfOk result (ReportOf (meaning T.changes_of A.eq A.rules A.values) target.now blocks.now) }
+    ensures report { IfOk result (ReportOf (meaning T.changes_of A.eq A.rules A.values) target.now
+        blocks.now) }
     ensures kept { IfOk result (λ r. r.kept ≡ part.ops) }
     ensures pinned { IfOk result (λ r. r.pinned ≡ part.pinned) }
-    ensures fails { IfErr result (RunFails (meaning T.changes_of A.eq A.rules A.values) target.now part.ops blocks.now) }
+    ensures fails { IfErr result (RunFails (meaning T.changes_of A.eq A.rules A.values) target.now part.ops
+        blocks.now) }
 {
     let pinned = part.pinned.into_vec();
     let log = open_log(alloc, target, list, part.ops.into_vec())?;

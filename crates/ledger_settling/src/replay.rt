@@ -68,8 +68,11 @@ pub(crate) fn replay<A: AccountValue>(
 
 /// Whether the operation can be read, and then the accounts after it.
 fn replay_op<A: AccountValue>(accounts: &mut Accounts<A>, op: &AnyOp) -> Result<bool, OutOfMemory>
-    ensures readable { IfOk result (λ r. MatchBool r (IsReadable A.values op.now) (IsUnreadable A.values op.now)) }
-    ensures replay { IfOk result (λ r. IsTrue r → (base : Items Op) → IsReplay A.eq A.values accounts.old base → IsReplay A.eq A.values accounts.new (base ++ op.now ∷ [])) }
+    ensures readable { IfOk result (λ r. MatchBool r (IsReadable A.values op.now)
+        (IsUnreadable A.values op.now)) }
+    ensures replay { IfOk result (λ r. IsTrue r → (base : Items Op)
+        → IsReplay A.eq A.values accounts.old base
+        → IsReplay A.eq A.values accounts.new (base ++ op.now ∷ [])) }
 {
     match op {
         AnyOp::Update(key, value) => match A::from_value(value) {

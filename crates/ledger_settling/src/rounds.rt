@@ -61,8 +61,10 @@ fn open_round<T: Transfer<Key = Key, Account = A>, A: AccountValue>(
 ) -> Result<(), OutOfMemory>
     requires { AreOpened A.eq accounts.now selection.old.0 selection.old.1 }
     ensures opened { OnOk result (AreOpened A.eq accounts.now selection.new.0 selection.new.1) }
-    ensures keeps { OnOk result ((ts : _) → StandsFor bytes_eq A.eq A.rules selection.old.1 ts → StandsFor bytes_eq A.eq A.rules selection.new.1 ts) }
-    ensures registered { OnOk result (All (λ t. IsSome (lookup (bytes_eq t.0) selection.new.1)) (touches T.changes_of round.now)) }
+    ensures keeps { OnOk result ((ts : _) → StandsFor bytes_eq A.eq A.rules selection.old.1 ts
+        → StandsFor bytes_eq A.eq A.rules selection.new.1 ts) }
+    ensures registered { OnOk result (All (λ t. IsSome (lookup (bytes_eq t.0) selection.new.1))
+        (touches T.changes_of round.now)) }
 {
     let new = selection.touch(alloc, round)?;
     let reads = reads_from(alloc, accounts, selection.keys(), new.start)?;
@@ -78,7 +80,8 @@ fn push_taken<T: Transfer<Key = Key>>(
     candidate: &T,
     verdict: bool,
 ) -> Result<(), OutOfMemory>
-    ensures { OnOk result (changes.new.items ≡ changes.old.items ++ (if verdict then T.changes_of candidate.now else [])) }
+    ensures { OnOk result (changes.new.items ≡ changes.old.items
+        ++ (if verdict then T.changes_of candidate.now else [])) }
 {
     if verdict {
         candidate.changes(changes)
@@ -94,7 +97,8 @@ fn push_round<T: Transfer<Key = Key>>(
     verdicts: &[bool],
 ) -> Result<(), OutOfMemory>
     requires { length verdicts.now ≡ length round.now }
-    ensures { OnOk result (changes.new.items ≡ changes.old.items ++ flat_map T.changes_of (taken round.now verdicts.now)) }
+    ensures { OnOk result (changes.new.items ≡ changes.old.items
+        ++ flat_map T.changes_of (taken round.now verdicts.now)) }
 {
     for place in 0..round.len() {
         push_taken(changes, &round[place], verdicts[place])?;
@@ -113,8 +117,10 @@ fn choose_round<T: Transfer<Key = Key, Account = A>, A: AccountValue>(
     requires { AreOpened A.eq accounts.now selection.old.0 selection.old.1 }
     ensures opened { OnOk result (AreOpened A.eq accounts.now selection.new.0 selection.new.1) }
     ensures all { IfOk result (λ verdicts. length verdicts ≡ length round.now) }
-    ensures chosen { IfOk result (λ verdicts. AreChosen A.eq A.rules T.changes_of accounts.now selection.old.1 selection.new.1 round.now verdicts) }
-    ensures changes { IfOk result (λ verdicts. changes.new.items ≡ changes.old.items ++ flat_map T.changes_of (taken round.now verdicts)) }
+    ensures chosen { IfOk result (λ verdicts. AreChosen A.eq A.rules T.changes_of accounts.now
+        selection.old.1 selection.new.1 round.now verdicts) }
+    ensures changes { IfOk result (λ verdicts. changes.new.items ≡ changes.old.items
+        ++ flat_map T.changes_of (taken round.now verdicts)) }
 {
     open_round(alloc, selection, accounts, round)?;
     let verdicts = match selection.apply(alloc, round) {
@@ -136,8 +142,10 @@ fn choose_rounds<T: Transfer<Key = Key, Account = A>, A: AccountValue>(
     requires { AreOpened A.eq accounts.now selection.old.0 selection.old.1 }
     ensures opened { OnOk result (AreOpened A.eq accounts.now selection.new.0 selection.new.1) }
     ensures cut { IfOk result (λ verdicts. map length verdicts.items ≡ map length rounds.now) }
-    ensures chosen { IfOk result (λ verdicts. AreChosen A.eq A.rules T.changes_of accounts.now selection.old.1 selection.new.1 (joined rounds.now) (joined verdicts.items)) }
-    ensures changes { IfOk result (λ verdicts. changes.new.items ≡ changes.old.items ++ flat_map T.changes_of (taken (joined rounds.now) (joined verdicts.items))) }
+    ensures chosen { IfOk result (λ verdicts. AreChosen A.eq A.rules T.changes_of accounts.now
+        selection.old.1 selection.new.1 (joined rounds.now) (joined verdicts.items)) }
+    ensures changes { IfOk result (λ verdicts. changes.new.items ≡ changes.old.items
+        ++ flat_map T.changes_of (taken (joined rounds.now) (joined verdicts.items))) }
 {
     let mut verdicts = Vec::new(alloc);
     for round in rounds {
@@ -153,7 +161,8 @@ fn places_of<A: AccountValue>(
     selection: &Selection<Key, A>,
     keys: &[Key],
 ) -> Result<Vec<Option<usize>>, OutOfMemory>
-    ensures { IfOk result (λ places. places.items ≡ map (λ key. position (bytes_eq key) selection.now.0) keys.now) }
+    ensures { IfOk result (λ places. places.items
+        ≡ map (λ key. position (bytes_eq key) selection.now.0) keys.now) }
 {
     let mut places = Vec::with_capacity(alloc, keys.len())?;
     for key in keys {
@@ -179,7 +188,8 @@ fn slot_at<A: AccountValue>(
     slots: &[Slot<A>],
     place: Option<usize>,
 ) -> Result<Slot<A>, OutOfMemory>
-    ensures { IfOk result (λ copy. SameSlot A.eq copy (unwrap_or (option_and_then (slice_get slots.now) place) Keep)) }
+    ensures { IfOk result (λ copy. SameSlot A.eq copy
+        (unwrap_or (option_and_then (slice_get slots.now) place) Keep)) }
 {
     match place {
         Some(place) => copy_slot(alloc, slots.get(place)),
@@ -214,7 +224,9 @@ fn selected_slots<R: RandomSource + Threads + Sync, A: AccountValue, S: Strategy
     strategy: &S,
 ) -> Result<Vec<Slot<A>>, OutOfMemory>
     requires { AreOpened A.eq accounts.now selection.0 selection.1 }
-    ensures { IfOk result (λ slots. (ts : _) → StandsFor bytes_eq A.eq A.rules selection.1 ts → keys.now ≡ touched_first ts → AreSettled bytes_eq A.eq A.rules keys.now (opening_of A.rules accounts.now) ts slots.items) }
+    ensures { IfOk result (λ slots. (ts : _) → StandsFor bytes_eq A.eq A.rules selection.1 ts
+        → keys.now ≡ touched_first ts → AreSettled bytes_eq A.eq A.rules keys.now
+        (opening_of A.rules accounts.now) ts slots.items) }
 {
     let places = places_of(alloc, &selection, keys)?;
     let slots = selection.settle(rt, alloc, strategy)?;
@@ -258,10 +270,15 @@ pub(crate) fn settle_rounds<
     strategy: &S,
 ) -> Result<List<List<bool>>, ReportFault>
     requires { IsReplay A.eq A.values accounts.old log.old.ops }
-    ensures settles { IfOk result (λ v. Settles (meaning T.changes_of A.eq A.rules A.values) log.old.ops (Rounds rounds.now) (Verdicts v)) }
-    ensures grown { IfOk result (λ v. log.new ≡ record log.old { ops = grown (meaning T.changes_of A.eq A.rules A.values) log.old.ops (taken (joined rounds.now) (joined v)) }) }
+    ensures settles { IfOk result (λ v. Settles (meaning T.changes_of A.eq A.rules A.values) log.old.ops
+        (Rounds rounds.now) (Verdicts v)) }
+    ensures grown { IfOk result
+        (λ v. log.new
+        ≡
+        record log.old { ops = grown (meaning T.changes_of A.eq A.rules A.values) log.old.ops (taken (joined rounds.now) (joined v)) }) }
     ensures accounts { OnOk result (IsReplay A.eq A.values accounts.new log.new.ops) }
-    ensures fails { IfErr result (BlockFails (meaning T.changes_of A.eq A.rules A.values) log.old place (Rounds rounds.now)) }
+    ensures fails { IfErr result (BlockFails (meaning T.changes_of A.eq A.rules A.values) log.old place
+        (Rounds rounds.now)) }
 {
     let mut selection = Selection::new(rt, alloc);
     let mut changes = Vec::new(alloc);

@@ -35,10 +35,15 @@ fn settle_body<
     strategy: &S,
 ) -> Result<(), ReportFault>
     requires { IsReplay A.eq A.values accounts.old log.old.ops }
-    ensures settled { OnOk result (IsSettled (meaning T.changes_of A.eq A.rules A.values) log.old.ops batch.now) }
-    ensures grown { OnOk result (log.new ≡ record log.old { ops = grown (meaning T.changes_of A.eq A.rules A.values) log.old.ops batch.now }) }
+    ensures settled { OnOk result (IsSettled (meaning T.changes_of A.eq A.rules A.values) log.old.ops
+        batch.now) }
+    ensures grown { OnOk result
+        (log.new
+        ≡
+        record log.old { ops = grown (meaning T.changes_of A.eq A.rules A.values) log.old.ops batch.now }) }
     ensures accounts { OnOk result (IsReplay A.eq A.values accounts.new log.new.ops) }
-    ensures fails { IfErr result (BodyFails (meaning T.changes_of A.eq A.rules A.values) log.old block batch.now) }
+    ensures fails { IfErr result (BodyFails (meaning T.changes_of A.eq A.rules A.values) log.old block
+        batch.now) }
 {
     let planned = match body_slots(rt, alloc, accounts, batch, strategy) {
         Ok(planned) => planned,
@@ -67,10 +72,15 @@ pub(crate) fn settle_block<
     strategy: &S,
 ) -> Result<BlockVerdicts, ReportFault>
     requires { IsReplay A.eq A.values accounts.old log.old.ops }
-    ensures settles { IfOk result (Settles (meaning T.changes_of A.eq A.rules A.values) log.old.ops block.now) }
-    ensures grown { IfOk result (λ v. log.new ≡ record log.old { ops = grown (meaning T.changes_of A.eq A.rules A.values) log.old.ops (batch_of block.now v) }) }
+    ensures settles { IfOk result (Settles (meaning T.changes_of A.eq A.rules A.values) log.old.ops
+        block.now) }
+    ensures grown { IfOk result
+        (λ v. log.new
+        ≡
+        record log.old { ops = grown (meaning T.changes_of A.eq A.rules A.values) log.old.ops (batch_of block.now v) }) }
     ensures accounts { OnOk result (IsReplay A.eq A.values accounts.new log.new.ops) }
-    ensures fails { IfErr result (BlockFails (meaning T.changes_of A.eq A.rules A.values) log.old place block.now) }
+    ensures fails { IfErr result (BlockFails (meaning T.changes_of A.eq A.rules A.values) log.old place
+        block.now) }
 {
     match block {
         Block::Body(batch) => {

@@ -94,8 +94,10 @@ pub(crate) fn body_slots<
     strategy: &S,
 ) -> Result<Planned<A>, PlanFault<Key>>
     ensures order { IfOk result (λ p. p.keys.items ≡ touched_first (touches T.changes_of batch.now)) }
-    ensures slots { IfOk result (λ p. AreSettled bytes_eq A.eq A.rules p.keys.items (opening_of A.rules accounts.now) (touches T.changes_of batch.now) p.slots.items) }
-    ensures fails { IfErr result (SlotsFail A.rules (opening_of A.rules accounts.now) (touches T.changes_of batch.now)) }
+    ensures slots { IfOk result (λ p. AreSettled bytes_eq A.eq A.rules p.keys.items
+        (opening_of A.rules accounts.now) (touches T.changes_of batch.now) p.slots.items) }
+    ensures fails { IfErr result (SlotsFail A.rules (opening_of A.rules accounts.now)
+        (touches T.changes_of batch.now)) }
 {
     let plan = Plan::new(rt, alloc, batch, strategy)?;
     let reads = reads_of(alloc, accounts, plan.keys())?;
@@ -111,8 +113,10 @@ fn write_slot<A: AccountValue>(
     key: Key,
     slot: Slot<A>,
 ) -> Result<(), OutOfMemory>
-    ensures ops { OnOk result (ops.new.items ≡ ops.old.items ++ option_to_list (written A.values key slot)) }
-    ensures replay { OnOk result ((base : Items Op) → IsReplay A.eq A.values accounts.old base → IsReplay A.eq A.values accounts.new (base ++ option_to_list (written A.values key slot))) }
+    ensures ops { OnOk result (ops.new.items ≡ ops.old.items
+        ++ option_to_list (written A.values key slot)) }
+    ensures replay { OnOk result ((base : Items Op) → IsReplay A.eq A.values accounts.old base
+        → IsReplay A.eq A.values accounts.new (base ++ option_to_list (written A.values key slot))) }
 {
     match slot {
         Slot::Keep => Ok(()),
@@ -136,8 +140,11 @@ fn write_found<A: AccountValue>(
     key: Key,
     slot: Option<Slot<A>>,
 ) -> Result<(), OutOfMemory>
-    ensures ops { OnOk result (ops.new.items ≡ ops.old.items ++ option_to_list (option_and_then (written A.values key) slot)) }
-    ensures replay { OnOk result ((base : Items Op) → IsReplay A.eq A.values accounts.old base → IsReplay A.eq A.values accounts.new (base ++ option_to_list (option_and_then (written A.values key) slot))) }
+    ensures ops { OnOk result (ops.new.items ≡ ops.old.items
+        ++ option_to_list (option_and_then (written A.values key) slot)) }
+    ensures replay { OnOk result ((base : Items Op) → IsReplay A.eq A.values accounts.old base
+        → IsReplay A.eq A.values accounts.new
+        (base ++ option_to_list (option_and_then (written A.values key) slot))) }
 {
     match slot {
         Some(slot) => write_slot(accounts, ops, key, slot),
@@ -153,7 +160,8 @@ pub(crate) fn write_slots<A: AccountValue>(
     mut slots: Vec<Slot<A>>,
 ) -> Result<Vec<AnyOp>, OutOfMemory>
     ensures ops { IfOk result (λ ops. ops.items ≡ writes_of A.values keys.now slots.items) }
-    ensures replay { IfOk result (λ ops. (base : Items Op) → IsReplay A.eq A.values accounts.old base → IsReplay A.eq A.values accounts.new (base ++ ops.items)) }
+    ensures replay { IfOk result (λ ops. (base : Items Op) → IsReplay A.eq A.values accounts.old base
+        → IsReplay A.eq A.values accounts.new (base ++ ops.items)) }
 {
     let mut ops = Vec::with_capacity(alloc, keys.len().saturating_add(1))?;
     slots.reverse();

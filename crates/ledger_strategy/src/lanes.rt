@@ -51,7 +51,8 @@ pub fn joined<X: Drop, E: From<OutOfMemory> + Drop>(
 ) -> Result<Vec<X>, E>
     ensures all { IfOk result (λ whole. All IsPiece lists.items) }
     ensures whole { IfOk result (λ whole. whole.items ≡ pieces lists.items) }
-    ensures refused { IfErr result (λ fault. HasFault lists.items fault ⊎ ((wanting : _) × E.from_gives wanting fault)) }
+    ensures refused { IfErr result (λ fault. HasFault lists.items fault
+        ⊎ ((wanting : _) × E.from_gives wanting fault)) }
 {
     let mut whole = Vec::new(alloc);
     for list in lists {
@@ -90,7 +91,8 @@ pub(crate) fn side_by_side<
         threads,
         &|row: usize| -> Result<Vec<R>, OutOfMemory>
             requires { F.IsAlwaysCallable work.now × (0 < threads) }
-            ensures { IfOk result (λ answers. AreResultsFrom (F.post work.entry.now) (start_of row threads parts) (start_of (row + 1) threads parts) answers.items) }
+            ensures { IfOk result (λ answers. AreResultsFrom (F.post work.entry.now)
+                (start_of row threads parts) (start_of (row + 1) threads parts) answers.items) }
         {
             let places = row_of(row, threads, parts);
             run_row(alloc, strategy, places.start, places.end, work)

@@ -23,7 +23,8 @@ where
     F::Op: Spell,
     requires { machine.old.pending ≡ [] }
     ensures fetched { CompactLogFetched sha256 F.Op.spelling F.floor_of result F.Op.reading F.Op.written
-        machine.old machine.new (L.wire link.old) (L.wire link.new) (L.faults link.old) (L.faults link.new) }
+        machine.old machine.new (L.wire link.old) (L.wire link.new) (L.faults link.old)
+        (L.faults link.new) }
     ensures exact { IsTrue L.exact → KeptUnlessNetwork result (L.faults link.old) (L.faults link.new) }
     ensures steady { L.steady link.old →
         L.steady link.new × KeptAndNoNetwork result (L.faults link.old) (L.faults link.new) }

@@ -43,11 +43,12 @@ fn full_of<L: Link>(
     limits: &Limits,
     link: &mut L,
 ) -> Result<Synced, StateFault>
-    ensures full { IfOk result (λ synced. (synced.family ≡ family) × BringsFull family limits.now
-        (link_over (L.service link.old) (L.wire link.old) (L.wire link.new) (L.faults link.old) (L.faults link.new))
-        synced) }
+    ensures full { IfOk result (λ synced. (synced.family ≡ family)
+        × BringsFull family limits.now (link_over (L.service link.old) (L.wire link.old) (L.wire link.new)
+        (L.faults link.old) (L.faults link.new)) synced) }
     ensures fails { IfErr result (BringsNoFull family limits.now
-        (link_over (L.service link.old) (L.wire link.old) (L.wire link.new) (L.faults link.old) (L.faults link.new))) }
+        (link_over (L.service link.old) (L.wire link.old) (L.wire link.new) (L.faults link.old)
+        (L.faults link.new))) }
     ensures few { IfErr result CanFail }
     ensures serving { IsServed family (L.service link.old) → IfErr result MayFail }
 {
@@ -65,11 +66,12 @@ fn compact_of<L: Link>(
     link: &mut L,
 ) -> Result<Synced, StateFault>
     requires { has_client_mode family SyncMode.Compact ≡ true }
-    ensures compact { IfOk result (λ synced. (synced.family ≡ family) × BringsCompact family
-        (link_over (L.service link.old) (L.wire link.old) (L.wire link.new) (L.faults link.old) (L.faults link.new))
-        synced) }
+    ensures compact { IfOk result (λ synced. (synced.family ≡ family)
+        × BringsCompact family (link_over (L.service link.old) (L.wire link.old) (L.wire link.new)
+        (L.faults link.old) (L.faults link.new)) synced) }
     ensures fails { IfErr result (BringsNoCompact family
-        (link_over (L.service link.old) (L.wire link.old) (L.wire link.new) (L.faults link.old) (L.faults link.new))) }
+        (link_over (L.service link.old) (L.wire link.old) (L.wire link.new) (L.faults link.old)
+        (L.faults link.new))) }
     ensures few { IfErr result CanFail }
 {
     match family {
@@ -83,12 +85,14 @@ fn compact_of<L: Link>(
 /// answers what it shows of itself. Refused where no log came, or what came is none.
 pub fn bring<L: Link>(alloc: Global, form: &SyncForm, link: &mut L) -> Result<Synced, StateFault>
     requires { has_client_mode form.now.family form.now.mode ≡ true }
-    ensures brings { IfOk result (Brings form.now
-        (link_over (L.service link.old) (L.wire link.old) (L.wire link.new) (L.faults link.old) (L.faults link.new))) }
+    ensures brings { IfOk result (Brings form.now (link_over (L.service link.old) (L.wire link.old)
+        (L.wire link.new) (L.faults link.old) (L.faults link.new))) }
     ensures fails { IfErr result (BringsNone form.now
-        (link_over (L.service link.old) (L.wire link.old) (L.wire link.new) (L.faults link.old) (L.faults link.new))) }
+        (link_over (L.service link.old) (L.wire link.old) (L.wire link.new) (L.faults link.old)
+        (L.faults link.new))) }
     ensures few { IfErr result CanFail }
-    ensures serving { form.now.mode ≡ full_mode → IsServed form.now.family (L.service link.old) → IfErr result MayFail }
+    ensures serving { form.now.mode ≡ full_mode → IsServed form.now.family (L.service link.old)
+        → IfErr result MayFail }
 {
     match form.mode {
         SyncMode::Full => full_of(alloc, form.family, &form.limits, link),

@@ -26,7 +26,8 @@ pub trait Account: Eq + Drop + Send + Sync {
 
     /// Whether the effect is accepted. A refused one may leave the account changed.
     fn apply(&mut self, effect: Self::Effect) -> bool
-        ensures { SameOutcome Self.eq (if result then Some self.new else None) (rules.applied self.old effect) };
+        ensures { SameOutcome Self.eq (if result then Some self.new else None)
+            (rules.applied self.old effect) };
 
     fn copy(&self, alloc: Global) -> Result<Self, OutOfMemory>
         ensures { IfOk result (λ a. Self.eq a self.now ≡ true) };

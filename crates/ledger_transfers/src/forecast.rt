@@ -18,7 +18,10 @@ pub fn has_no_effects<T: Transfer<Key = K, Account = A>, K: Copy + Eq + Hash, A:
     transfers: &[T],
 ) -> Result<bool, OutOfMemory>
     ensures none { IfOk result (λ r. IsTrue r ↔ HasNoEffects (touches T.changes_of transfers.now)) }
-    ensures any_order { IfOk result (λ r. IsTrue r → (opened_at : _) (others : _) → OpensByKey K.eq opened_at → IsPermutation transfers.now others → EndsAlike K.eq A.rules opened_at (touches T.changes_of transfers.now) (touches T.changes_of others)) }
+    ensures any_order { IfOk result (λ r. IsTrue r → (opened_at : _) (others : _)
+        → OpensByKey K.eq opened_at → IsPermutation transfers.now others
+        → EndsAlike K.eq A.rules opened_at (touches T.changes_of transfers.now)
+        (touches T.changes_of others)) }
 {
     let all = touches_of(alloc, transfers)?;
     Ok(are_without_effect(&all))
@@ -32,8 +35,11 @@ pub fn overdraws<T: Transfer<Key = K, Account = A>, K: Copy + Eq + Hash, A: Acco
     key: K,
     balance: u64,
 ) -> Result<bool, OutOfMemory>
-    ensures debits { IfOk result (λ r. IsTrue r ↔ (balance < deb K.eq (touches T.changes_of transfers.now) key)) }
-    ensures unsettled { IfOk result (λ r. IsTrue r → (opened_at : _) (more : _) → OpensByKey K.eq opened_at → A.rules.balance_of (opened_at key) ≤ balance → Settled K.eq A.rules opened_at (touches T.changes_of (transfers.now ++ more)) → ⊥) }
+    ensures debits { IfOk result (λ r. IsTrue r ↔ (balance
+        < deb K.eq (touches T.changes_of transfers.now) key)) }
+    ensures unsettled { IfOk result (λ r. IsTrue r → (opened_at : _) (more : _) → OpensByKey K.eq opened_at
+        → A.rules.balance_of (opened_at key) ≤ balance
+        → Settled K.eq A.rules opened_at (touches T.changes_of (transfers.now ++ more)) → ⊥) }
 {
     let all = touches_of(alloc, transfers)?;
     Ok(debits_exceed(&all, key, balance))

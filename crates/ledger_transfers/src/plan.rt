@@ -53,8 +53,10 @@ fn add_touch<K: Copy + Eq + Hash, E: Copy>(
     key: K,
     change: Change<E>,
 ) -> Result<(), PlanFault<K>>
-    ensures ok { OnOk result (Updates K.eq table.old table.new key (Some (with_change (unwrap_or (get K.eq table.old key) no_total) change))) }
-    ensures entries { OnOk result (table.new.entries ≡ insert_entry K.eq table.old.entries key (with_change (unwrap_or (get K.eq table.old key) no_total) change)) }
+    ensures ok { OnOk result (Updates K.eq table.old table.new key
+        (Some (with_change (unwrap_or (get K.eq table.old key) no_total) change))) }
+    ensures entries { OnOk result (table.new.entries ≡ insert_entry K.eq table.old.entries key
+        (with_change (unwrap_or (get K.eq table.old key) no_total) change)) }
     ensures fits { OnOk result (FitsWith (unwrap_or (get K.eq table.old key) no_total) change) }
     ensures unique { OnOk result (IsUnique K.eq table.new) }
     ensures fails { IfErr result (AddFails (unwrap_or (get K.eq table.old key) no_total) key change) }
@@ -77,10 +79,14 @@ fn add_touches<K: Copy + Eq + Hash, E: Copy>(
     table: &mut IndexMap<K, Totals<E>, Seeded>,
     all: &[(K, Change<E>)],
 ) -> Result<(), PlanFault<K>>
-    ensures plan { OnOk result ((before : _) → IsPlanOf K.eq before table.old.entries → IsPlanOf K.eq (before ++ all.now) table.new.entries) }
-    ensures order { OnOk result ((before : _) → keys_of table.old.entries ≡ touched K.eq [] before → keys_of table.new.entries ≡ touched K.eq [] (before ++ all.now)) }
-    ensures within { OnOk result ((before : _) → IsPlanOf K.eq before table.old.entries → IsWithinSums K.eq before → IsWithinSums K.eq (before ++ all.now)) }
-    ensures fails { IfErr result (λ fault. (before : _) (more : _) → IsPlanOf K.eq before table.old.entries → GatherFails K.eq ((before ++ all.now) ++ more) fault) }
+    ensures plan { OnOk result ((before : _) → IsPlanOf K.eq before table.old.entries
+        → IsPlanOf K.eq (before ++ all.now) table.new.entries) }
+    ensures order { OnOk result ((before : _) → keys_of table.old.entries ≡ touched K.eq [] before
+        → keys_of table.new.entries ≡ touched K.eq [] (before ++ all.now)) }
+    ensures within { OnOk result ((before : _) → IsPlanOf K.eq before table.old.entries
+        → IsWithinSums K.eq before → IsWithinSums K.eq (before ++ all.now)) }
+    ensures fails { IfErr result (λ fault. (before : _) (more : _) → IsPlanOf K.eq before table.old.entries
+        → GatherFails K.eq ((before ++ all.now) ++ more) fault) }
 {
     for (key, change) in all {
         add_touch(alloc, table, *key, *change)?;
@@ -95,7 +101,8 @@ fn gather<T: Transfer<Key = K, Account = A>, K: Copy + Eq + Hash, A: Account>(
     transfers: &[T],
 ) -> Result<IndexMap<K, Totals<A::Effect>, Seeded>, PlanFault<K>>
     ensures plan { IfOk result (λ table. IsPlanOf K.eq (touches T.changes_of transfers.now) table.entries) }
-    ensures order { IfOk result (λ table. keys_of table.entries ≡ touched K.eq [] (touches T.changes_of transfers.now)) }
+    ensures order { IfOk result (λ table. keys_of table.entries
+        ≡ touched K.eq [] (touches T.changes_of transfers.now)) }
     ensures within { OnOk result (IsWithinSums K.eq (touches T.changes_of transfers.now)) }
     ensures fails { IfErr result (GatherFails K.eq (touches T.changes_of transfers.now)) }
 {
@@ -119,7 +126,8 @@ impl<K: Copy + Eq + Hash, A: Account> Plan<K, A> {
         strategy: &S,
     ) -> Result<Self, PlanFault<K>>
         ensures plan { IfOk result (IsPlanOf K.eq (touches T.changes_of transfers.now)) }
-        ensures order { IfOk result (λ plan. keys_of plan ≡ touched K.eq [] (touches T.changes_of transfers.now)) }
+        ensures order { IfOk result (λ plan. keys_of plan
+            ≡ touched K.eq [] (touches T.changes_of transfers.now)) }
         ensures within { OnOk result (IsWithinSums K.eq (touches T.changes_of transfers.now)) }
         ensures fails { IfErr result (GatherFails K.eq (touches T.changes_of transfers.now)) }
     {
@@ -135,7 +143,8 @@ impl<K: Copy + Eq + Hash, A: Account> Plan<K, A> {
         _strategy: &S,
     ) -> Result<Self, PlanFault<K>>
         ensures plan { IfOk result (IsPlanOf K.eq (touches T.changes_of transfers.now)) }
-        ensures order { IfOk result (λ plan. keys_of plan ≡ touched K.eq [] (touches T.changes_of transfers.now)) }
+        ensures order { IfOk result (λ plan. keys_of plan
+            ≡ touched K.eq [] (touches T.changes_of transfers.now)) }
         ensures within { OnOk result (IsWithinSums K.eq (touches T.changes_of transfers.now)) }
         ensures fails { IfErr result (GatherFails K.eq (touches T.changes_of transfers.now)) }
     {
@@ -183,8 +192,11 @@ impl<K: Copy + Eq + Hash, A: Account> Plan<K, A> {
         requires { length reads.now ≡ length self.now }
         ensures settled { IfOk result (λ slots. AreSlots A.eq A.rules self.now reads.now slots.items) }
         ensures fails { IfErr result (PlanFails A.rules self.now reads.now) }
-        ensures batch { IfOk result (λ slots. (ts : _) → IsPlanOf K.eq ts self.now → BatchSettles K.eq A.rules A.eq (keys_of self.now) (opened_by K.eq A.rules (keys_of self.now) reads.now) ts slots.items) }
-        ensures offends { IfErr result (λ fault. (ts : _) → IsPlanOf K.eq ts self.now → BatchFails K.eq A.rules (opened_by K.eq A.rules (keys_of self.now) reads.now) ts fault) }
+        ensures batch { IfOk result (λ slots. (ts : _) → IsPlanOf K.eq ts self.now
+            → BatchSettles K.eq A.rules A.eq (keys_of self.now)
+            (opened_by K.eq A.rules (keys_of self.now) reads.now) ts slots.items) }
+        ensures offends { IfErr result (λ fault. (ts : _) → IsPlanOf K.eq ts self.now
+            → BatchFails K.eq A.rules (opened_by K.eq A.rules (keys_of self.now) reads.now) ts fault) }
     {
         let parts = parts_for(strategy, self.transfers, LEAST);
         settle_all(rt, alloc, strategy, parts, &self.table, reads)

@@ -86,7 +86,8 @@ fn register_one<K: Copy + Eq + Hash, A: Account>(
     requires room { 0 < spare table.old }
     requires count { length table.old.entries < length keys.now }
     requires selection { IsSelection K.eq keys.now table.old.entries }
-    ensures entries { (k : K) × (slice_get keys.now (length table.old.entries) ≡ Some k) × (table.new.entries ≡ table.old.entries ++ (k, fresh read) ∷ []) }
+    ensures entries { (k : K) × (slice_get keys.now (length table.old.entries) ≡ Some k)
+        × (table.new.entries ≡ table.old.entries ++ (k, fresh read) ∷ []) }
     ensures room { spare table.old ≤ spare table.new + 1 }
     ensures amount { A.rules.balance_of (opened A.rules read) ≤ max_amount }
 {
@@ -127,7 +128,9 @@ pub(crate) fn register_all<K: Copy + Eq + Hash, A: Account>(
 /// What becomes of a registered key's account. The sums of a batch that settles neither fall below 0 nor pass the greatest
 /// amount, so nothing is cut off.
 fn settle_held<A: Account>(alloc: Global, held: &Held<A>) -> Result<Slot<A>, OutOfMemory>
-    ensures { IfOk result (λ slot. (total : _) → IsHeld A.eq A.rules held.now.read held.now.sums total → Settles A.rules (opened A.rules held.now.read) total → SettlesTo A.eq A.rules (opened A.rules held.now.read) total slot) }
+    ensures { IfOk result (λ slot. (total : _) → IsHeld A.eq A.rules held.now.read held.now.sums total
+        → Settles A.rules (opened A.rules held.now.read) total
+        → SettlesTo A.eq A.rules (opened A.rules held.now.read) total slot) }
 {
     let mut account = kept_account(alloc, &held.read, &held.sums)?;
     let left = opening_balance(&held.read).saturating_sub(held.sums.debits);
@@ -165,7 +168,8 @@ fn settle_row<K: Copy + Eq + Hash, A: Account>(
     requires selection { IsSelection K.eq keys.now table.now.entries }
     requires order { from ≤ upto }
     requires within { upto ≤ length keys.now }
-    ensures { IfOk result (λ slots. AreResultsFrom (IsKeySlot K.eq A.eq A.rules keys.now table.now.entries) from upto slots.items) }
+    ensures { IfOk result (λ slots. AreResultsFrom (IsKeySlot K.eq A.eq A.rules keys.now table.now.entries)
+        from upto slots.items) }
 {
     let mut slots = Vec::with_capacity(alloc, upto - from)?;
     for place in from..upto {
@@ -192,15 +196,21 @@ pub(crate) fn settle_all<
     requires some { 0 < parts }
     requires all { length table.now.entries ≡ length keys.now }
     requires selection { IsSelection K.eq keys.now table.now.entries }
-    ensures { IfOk result (λ slots. (ts : _) → StandsFor K.eq A.eq A.rules table.now.entries ts → AreSettled K.eq A.eq A.rules keys.now (opened_at K.eq A.eq A.rules table.now.entries) ts slots.items) }
+    ensures { IfOk result (λ slots. (ts : _) → StandsFor K.eq A.eq A.rules table.now.entries ts
+        → AreSettled K.eq A.eq A.rules keys.now (opened_at K.eq A.eq A.rules table.now.entries) ts
+        slots.items) }
 {
     let rows = strategy.map_parts(
         rt,
         alloc,
         parts,
         |part: usize| -> Result<Vec<Slot<A>>, OutOfMemory>
-            requires { (0 < parts) × (length table.now.entries ≡ length keys.now) × IsSelection K.eq keys.now table.now.entries }
-            ensures { IfOk result (λ slots. AreResultsFrom (IsKeySlot K.eq A.eq A.rules keys.entry.now table.entry.now.entries) (start_of part parts (length keys.entry.now)) (start_of (part + 1) parts (length keys.entry.now)) slots.items) }
+            requires { (0 < parts) × (length table.now.entries ≡ length keys.now)
+                × IsSelection K.eq keys.now table.now.entries }
+            ensures { IfOk result (λ slots. AreResultsFrom
+                (IsKeySlot K.eq A.eq A.rules keys.entry.now table.entry.now.entries)
+                (start_of part parts (length keys.entry.now))
+                (start_of (part + 1) parts (length keys.entry.now)) slots.items) }
         {
             let row = row_of(part, parts, keys.len());
             settle_row(alloc, keys, table, row.start, row.end)

@@ -97,7 +97,8 @@ impl<K: Copy + Eq + Hash, A: Account> Selection<K, A> {
         alloc: Global,
         transfers: &[T],
     ) -> Result<Range<usize>, OutOfMemory>
-        ensures ok { OnOk result (self.new ≡ (touched K.eq self.old.0 (touches T.changes_of transfers.now), self.old.1)) }
+        ensures ok { OnOk result (self.new
+            ≡ (touched K.eq self.old.0 (touches T.changes_of transfers.now), self.old.1)) }
         ensures range { IfOk result (λ r. (r.start ≡ length self.old.0) × (r.end ≡ length self.new.0)) }
         ensures err { OnErr result (self.new ≡ self.old) }
     {
@@ -119,7 +120,8 @@ impl<K: Copy + Eq + Hash, A: Account> Selection<K, A> {
     pub fn register(&mut self, reads: Vec<Option<A>>) -> Result<(), Vec<Option<A>>>
         requires { length self.old.1 + length reads.items ≡ length self.old.0 }
         ensures ok { OnOk result (self.new ≡ (self.old.0, registered self.old.0 self.old.1 reads.items)) }
-        ensures keeps { OnOk result ((ts : _) → StandsFor K.eq A.eq A.rules self.old.1 ts → StandsFor K.eq A.eq A.rules self.new.1 ts) }
+        ensures keeps { OnOk result ((ts : _) → StandsFor K.eq A.eq A.rules self.old.1 ts
+            → StandsFor K.eq A.eq A.rules self.new.1 ts) }
         ensures back { IfErr result (λ back. back.items ≡ reads.items) }
         ensures err { OnErr result (self.new ≡ self.old) }
     {
@@ -136,7 +138,8 @@ impl<K: Copy + Eq + Hash, A: Account> Selection<K, A> {
         alloc: Global,
         transfers: &[T],
     ) -> Result<bool, OutOfMemory>
-        ensures { IfOk result (λ r. IsTrue r ↔ All (λ t. IsSome (lookup (K.eq t.0) self.now.1)) (touches T.changes_of transfers.now)) }
+        ensures { IfOk result (λ r. IsTrue r ↔ All (λ t. IsSome (lookup (K.eq t.0) self.now.1))
+            (touches T.changes_of transfers.now)) }
     {
         let all = touches_of(alloc, transfers)?;
         Ok(are_registered(&self.table, &all))
@@ -151,11 +154,15 @@ impl<K: Copy + Eq + Hash, A: Account> Selection<K, A> {
     ) -> Result<Vec<bool>, Stopped>
         requires { All (λ t. IsSome (lookup (K.eq t.0) self.old.1)) (touches T.changes_of transfers.now) }
         ensures ok { IfOk result (λ v. length v.items ≡ length transfers.now) }
-        ensures greedy { IfOk result (λ v. IsChosen K.eq A.eq A.rules T.changes_of self.old.1 self.new.1 transfers.now v.items) }
-        ensures verdicts { IfOk result (λ v. AllDecided K.eq A.eq A.rules T.changes_of self.old.1 self.new.1 transfers.now v.items) }
+        ensures greedy { IfOk result (λ v. IsChosen K.eq A.eq A.rules T.changes_of self.old.1 self.new.1
+            transfers.now v.items) }
+        ensures verdicts { IfOk result (λ v. AllDecided K.eq A.eq A.rules T.changes_of self.old.1 self.new.1
+            transfers.now v.items) }
         ensures within { IfErr result (λ s. length s.verdicts < length transfers.now) }
-        ensures stopped { IfErr result (λ s. AllDecided K.eq A.eq A.rules T.changes_of self.old.1 self.new.1 (take (length s.verdicts) transfers.now) s.verdicts) }
-        ensures stopped_greedy { IfErr result (λ s. IsChosen K.eq A.eq A.rules T.changes_of self.old.1 self.new.1 (take (length s.verdicts) transfers.now) s.verdicts) }
+        ensures stopped { IfErr result (λ s. AllDecided K.eq A.eq A.rules T.changes_of self.old.1 self.new.1
+            (take (length s.verdicts) transfers.now) s.verdicts) }
+        ensures stopped_greedy { IfErr result (λ s. IsChosen K.eq A.eq A.rules T.changes_of self.old.1
+            self.new.1 (take (length s.verdicts) transfers.now) s.verdicts) }
         ensures keys { self.new.0 ≡ self.old.0 }
         ensures reads { AreReadBy K.eq self.old.1 self.new.1 }
     {
@@ -180,8 +187,11 @@ impl<K: Copy + Eq + Hash, A: Account> Selection<K, A> {
     where
         K: Send + Sync,
         requires { length self.1 ≡ length self.0 }
-        ensures planned { IfOk result (λ slots. (ts : _) → StandsFor K.eq A.eq A.rules self.1 ts → AgreesWithPlans K.eq A.eq A.rules self.0 (opened_at K.eq A.eq A.rules self.1) ts slots.items) }
-        ensures slots { IfOk result (λ slots. (ts : _) → StandsFor K.eq A.eq A.rules self.1 ts → AreSettled K.eq A.eq A.rules self.0 (opened_at K.eq A.eq A.rules self.1) ts slots.items) }
+        ensures planned { IfOk result (λ slots. (ts : _) → StandsFor K.eq A.eq A.rules self.1 ts
+            → AgreesWithPlans K.eq A.eq A.rules self.0 (opened_at K.eq A.eq A.rules self.1) ts
+            slots.items) }
+        ensures slots { IfOk result (λ slots. (ts : _) → StandsFor K.eq A.eq A.rules self.1 ts
+            → AreSettled K.eq A.eq A.rules self.0 (opened_at K.eq A.eq A.rules self.1) ts slots.items) }
     {
         let parts = parts_for(strategy, self.keys.len(), LEAST);
         settle_all(

@@ -12,7 +12,8 @@ use std::alloc::Global;
 
 /// Applies the effects in order, up to the first that is refused.
 fn apply_all<A: Account>(account: &mut A, effects: &[A::Effect]) -> bool
-    ensures { SameOutcome A.eq (if result then Some account.new else None) (folded A.rules account.old effects.now) }
+    ensures { SameOutcome A.eq (if result then Some account.new else None)
+        (folded A.rules account.old effects.now) }
 {
     for effect in effects {
         if !account.apply(*effect) {
@@ -59,7 +60,8 @@ pub(crate) fn settle_key<K: Copy, A: Account>(
     read: &Option<A>,
     total: &Totals<A::Effect>,
 ) -> Result<Slot<A>, PlanFault<K>>
-    ensures settled { IfOk result (λ slot. SettlesTo A.eq A.rules (opened A.rules read.now) total.now slot) }
+    ensures settled { IfOk result (λ slot. SettlesTo A.eq A.rules (opened A.rules read.now) total.now
+        slot) }
     ensures fails { IfErr result (KeyFails A.rules (opened A.rules read.now) total.now key) }
 {
     let Ok(mut account) = opening(alloc, read) else {

@@ -56,7 +56,8 @@ fn settle_row<K: Copy + Eq + Hash, A: Account>(
     requires reads { length reads.now ≡ index_map_len table.now }
     requires order { from ≤ upto }
     requires within { upto ≤ length reads.now }
-    ensures settled { IfOk result (λ slots. AreResultsFrom (IsSlotAt A.eq A.rules table.now.entries reads.now) from upto slots.items) }
+    ensures settled { IfOk result (λ slots. AreResultsFrom
+        (IsSlotAt A.eq A.rules table.now.entries reads.now) from upto slots.items) }
     ensures fails { IfErr result (PlanFails A.rules table.now.entries reads.now) }
 {
     let Ok(mut slots) = Vec::with_capacity(alloc, upto - from) else {
@@ -94,7 +95,11 @@ pub(crate) fn settle_all<
         parts,
         |part: usize| -> Result<Vec<Slot<A>>, PlanFault<K>>
             requires { (0 < parts) × (length reads.now ≡ index_map_len table.now) }
-            ensures { IfOk result (λ slots. AreResultsFrom (IsSlotAt A.eq A.rules table.entry.now.entries reads.entry.now) (start_of part parts (length reads.entry.now)) (start_of (part + 1) parts (length reads.entry.now)) slots.items) × IfErr result (PlanFails A.rules table.entry.now.entries reads.entry.now) }
+            ensures { IfOk result (λ slots. AreResultsFrom
+                (IsSlotAt A.eq A.rules table.entry.now.entries reads.entry.now)
+                (start_of part parts (length reads.entry.now))
+                (start_of (part + 1) parts (length reads.entry.now)) slots.items)
+                × IfErr result (PlanFails A.rules table.entry.now.entries reads.entry.now) }
         {
             let row = row_of(part, parts, reads.len());
             settle_row(alloc, table, reads, row.start, row.end)

@@ -39,7 +39,8 @@ fn decide<T: Transfer<Key = K, Account = A>, K: Copy + Eq + Hash, A: Account>(
     log: &mut Vec<(usize, Revision<A>)>,
 ) -> Result<bool, OutOfMemory>
     requires { All (λ t. IsSome (get K.eq table.old t.0)) (touches T.changes_of (candidate.now ∷ [])) }
-    ensures decided { IfOk result (Decided K.eq A.eq A.rules table.old.entries table.new.entries (touches T.changes_of (candidate.now ∷ []))) }
+    ensures decided { IfOk result (Decided K.eq A.eq A.rules table.old.entries table.new.entries
+        (touches T.changes_of (candidate.now ∷ []))) }
     ensures unchanged { OnErr result (table.new.entries ≡ table.old.entries) }
     ensures same_reads { AreReadBy K.eq table.old.entries table.new.entries }
 {
@@ -69,7 +70,8 @@ pub(crate) fn decide_all<T: Transfer<Key = K, Account = A>, K: Copy + Eq + Hash,
     requires none { verdicts.old.items ≡ [] }
     ensures ok { OnOk result (length verdicts.new.items ≡ length candidates.now) }
     ensures stopped { OnErr result (length verdicts.new.items < length candidates.now) }
-    ensures decided { AllDecided K.eq A.eq A.rules T.changes_of table.old.entries table.new.entries (take (length verdicts.new.items) candidates.now) verdicts.new.items }
+    ensures decided { AllDecided K.eq A.eq A.rules T.changes_of table.old.entries table.new.entries
+        (take (length verdicts.new.items) candidates.now) verdicts.new.items }
     ensures same_reads { AreReadBy K.eq table.old.entries table.new.entries }
 {
     let mut all = Vec::new(alloc);

@@ -106,8 +106,10 @@ fn add_touch<K: Copy + Eq + Hash, A: Account>(
     guess: usize,
 ) -> Result<Option<(usize, Revision<A>)>, OutOfMemory>
     requires { IsSome (get K.eq table.old key.now) }
-    ensures added { IfOk result (λ r. MatchOption r (table.new.entries ≡ table.old.entries) (IsAdded K.eq A.eq A.rules table.old.entries table.new.entries (key.now, change))) }
-    ensures refused { IfOk result (λ r. MatchOption r ((more : _) → IsRefused K.eq A.eq A.rules table.old.entries ((key.now, change) ∷ more)) (λ _. ⊤)) }
+    ensures added { IfOk result (λ r. MatchOption r (table.new.entries ≡ table.old.entries)
+        (IsAdded K.eq A.eq A.rules table.old.entries table.new.entries (key.now, change))) }
+    ensures refused { IfOk result (λ r. MatchOption r
+        ((more : _) → IsRefused K.eq A.eq A.rules table.old.entries ((key.now, change) ∷ more)) (λ _. ⊤)) }
     ensures err { OnErr result (table.new.entries ≡ table.old.entries) }
 {
     let place = place_of(table, key, guess);
@@ -133,7 +135,8 @@ fn add_all<K: Copy + Eq + Hash, A: Account>(
     requires none { log.old.items ≡ [] }
     ensures undo { undone log.new.items table.new.entries ≡ table.old.entries }
     ensures same_reads { AreReadBy K.eq table.old.entries table.new.entries }
-    ensures added { IfOk result (λ r. MatchBool r (AreAdded K.eq A.eq A.rules table.old.entries table.new.entries all.now log.new.items) (IsRefused K.eq A.eq A.rules table.old.entries all.now)) }
+    ensures added { IfOk result (λ r. MatchBool r (AreAdded K.eq A.eq A.rules table.old.entries
+        table.new.entries all.now log.new.items) (IsRefused K.eq A.eq A.rules table.old.entries all.now)) }
 {
     for (key, change) in all {
         log.reserve(1)?;
@@ -166,7 +169,8 @@ fn settles_at<K: Copy + Eq + Hash, A: Account>(
     table: &IndexMap<K, Held<A>, Seeded>,
     place: usize,
 ) -> bool
-    ensures { MatchBool result (SettlesAt A.eq A.rules table.now.entries place) (FailsAt A.eq A.rules table.now.entries place) }
+    ensures { MatchBool result (SettlesAt A.eq A.rules table.now.entries place)
+        (FailsAt A.eq A.rules table.now.entries place) }
 {
     let Some((_, held)) = table.get_index(place) else {
         return true;
@@ -179,7 +183,8 @@ fn all_settle<K: Copy + Eq + Hash, A: Account>(
     table: &IndexMap<K, Held<A>, Seeded>,
     log: &[(usize, Revision<A>)],
 ) -> bool
-    ensures { MatchBool result (All (λ b. SettlesAt A.eq A.rules table.now.entries b.0) log.now) (HasFailing A.eq A.rules table.now.entries log.now) }
+    ensures { MatchBool result (All (λ b. SettlesAt A.eq A.rules table.now.entries b.0) log.now)
+        (HasFailing A.eq A.rules table.now.entries log.now) }
 {
     for entry in log {
         if !settles_at(table, entry.0) {
@@ -201,7 +206,8 @@ pub(crate) fn try_all<K: Copy + Eq + Hash, A: Account>(
     requires none { log.old.items ≡ [] }
     ensures undo { undone log.new.items table.new.entries ≡ table.old.entries }
     ensures same_reads { AreReadBy K.eq table.old.entries table.new.entries }
-    ensures taken { IfOk result (λ r. MatchBool r (IsTaken K.eq A.eq A.rules table.old.entries table.new.entries all.now) (IsRefused K.eq A.eq A.rules table.old.entries all.now)) }
+    ensures taken { IfOk result (λ r. MatchBool r (IsTaken K.eq A.eq A.rules table.old.entries
+        table.new.entries all.now) (IsRefused K.eq A.eq A.rules table.old.entries all.now)) }
 {
     if !add_all(alloc, table, all, guesses, log)? {
         return Ok(false);

@@ -31,7 +31,8 @@ pub fn test_batch<F: ExampleFamily>(
     floor: Location,
 ) -> Result<Vec<F::Op>, OutOfMemory>
     requires { count ≤ 9 }
-    ensures { IfOk result (λ ops. ops.items ≡ test_batch F.floor_of F.commit_of F.test_of F.test_commit_of count seed floor) }
+    ensures { IfOk result (λ ops. ops.items ≡ test_batch F.floor_of F.commit_of F.test_of F.test_commit_of
+        count seed floor) }
 {
     let Ok(tests) = Log::<F, Sha256Hasher>::create_test_operations(alloc, count, seed, 0) else {
         return Err(OutOfMemory);

@@ -123,7 +123,8 @@ fn fits_batch(form: &ServeForm) -> bool
 
 fn fits_numbers(form: &ServeForm) -> bool
     ensures value { result ≡ fits_numbers form.now }
-    ensures bounds { IsTrue result → (form.now.initial ≤ 1000000) × (1 ≤ form.now.connections) × (form.now.connections ≤ 8) × (form.now.batch ≤ 9) }
+    ensures bounds { IsTrue result → (form.now.initial ≤ 1000000) × (1 ≤ form.now.connections)
+        × (form.now.connections ≤ 8) × (form.now.batch ≤ 9) }
 {
     form.initial <= 1_000_000 && 1 <= form.connections && form.connections <= 8 && form.batch <= 9
 }

@@ -24,8 +24,11 @@ fn with_tests<F: TestedFamily, L: ExampleDatabase<F>>(
     requires few { count ≤ 1000000 }
     requires size { L.size_of log ≡ 1 }
     requires floor { L.last_floor_of log ≡ 0 }
-    ensures new { IfOk result (λ new. new ≡ with_batches L.appended log (added_batches F.floor_of F.added_of 0 (test_operations F.test_of F.test_commit_of seed 0 count))) }
-    ensures taken { OnOk result (first_refusal F.floor_of 1 0 (added_batches F.floor_of F.added_of 0 (test_operations F.test_of F.test_commit_of seed 0 count)) ≡ None) }
+    ensures new { IfOk result (λ new. new ≡ with_batches L.appended log
+        (added_batches F.floor_of F.added_of 0 (test_operations F.test_of F.test_commit_of seed 0 count))) }
+    ensures taken { OnOk result (first_refusal F.floor_of 1 0
+        (added_batches F.floor_of F.added_of 0 (test_operations F.test_of F.test_commit_of seed 0 count))
+        ≡ None) }
 {
     let start = log.current_floor();
     let Ok(operations) = L::create_test_operations(alloc, count, seed, start) else {
@@ -44,7 +47,8 @@ pub fn test_log<F: TestedFamily>(
     seed: u64,
 ) -> Result<Log<F, Sha256Hasher>, OutOfMemory>
     requires few { count ≤ 1000000 }
-    ensures { IfOk result (λ log. log ≡ test_log F.floor_of F.commit_of F.test_of F.test_commit_of F.added_of count seed) }
+    ensures { IfOk result (λ log. log ≡ test_log F.floor_of F.commit_of F.test_of F.test_commit_of
+        F.added_of count seed) }
 {
     let log: Log<F, Sha256Hasher> = match Log::fresh(alloc) {
         Ok(log) => log,
@@ -60,7 +64,8 @@ pub fn compact_test_log<F: TestedFamily + CompactExampleFamily>(
     seed: u64,
 ) -> Result<CompactLog<F, Sha256Hasher>, OutOfMemory>
     requires few { count ≤ 1000000 }
-    ensures { IfOk result (λ log. compact_of sha256 F.Op.spelling (test_log F.floor_of F.commit_of F.test_of F.test_commit_of F.added_of count seed) ≡ Some log) }
+    ensures { IfOk result (λ log. compact_of sha256 F.Op.spelling
+        (test_log F.floor_of F.commit_of F.test_of F.test_commit_of F.added_of count seed) ≡ Some log) }
 {
     let log: CompactLog<F, Sha256Hasher> = match CompactLog::fresh(alloc) {
         Ok(log) => log,

@@ -6,7 +6,8 @@ use std::num::NonZeroU32;
 
 /// The size of a dealing to so many players: a tag, five bytes, a coefficient a player and a scalar.
 fn dealing_size(players: usize, coefficient: usize, scalar: usize) -> Option<usize>
-    ensures { SomeIff result (1 + 5 + players * coefficient + scalar < 2 ^ 64) (1 + 5 + players * coefficient + scalar) }
+    ensures { SomeIff result (1 + 5 + players * coefficient + scalar < 2 ^ 64)
+        (1 + 5 + players * coefficient + scalar) }
 {
     let Some(coefficients) = players.checked_mul(coefficient) else {
         return None;
@@ -26,7 +27,8 @@ pub fn max_payload_size(
     scalar: usize,
     signature: usize,
 ) -> Option<usize>
-    ensures { let size = 10 + max (1 + 5 + n.value * coefficient + scalar) (1 + signature) in SomeIff result (size < 2 ^ 64) size }
+    ensures { let size = 10 + max (1 + 5 + n.value * coefficient + scalar) (1 + signature) in SomeIff result
+        (size < 2 ^ 64) size }
 {
     let Some(dealing) = dealing_size(n.get() as usize, coefficient, scalar) else {
         return None;

@@ -76,7 +76,8 @@ impl StepOut {
         channel: u64,
         bytes: List<u8>,
     ) -> Result<(), OutOfMemory>
-        ensures ok { OnOk result (self.new ≡ record self.old { messages = self.old.messages ++ (to, channel, bytes) ∷ [] }) }
+        ensures ok { OnOk result
+            (self.new ≡ record self.old { messages = self.old.messages ++ (to, channel, bytes) ∷ [] }) }
         ensures err { OnErr result (self.new ≡ self.old) }
     {
         push(alloc, &mut self.messages, (to, channel, bytes))
@@ -90,7 +91,9 @@ impl StepOut {
         height: u64,
         digest: List<u8>,
     ) -> Result<(), OutOfMemory>
-        ensures ok { OnOk result (self.new ≡ record self.old { finalized = self.old.finalized ++ (round, height, digest) ∷ [] }) }
+        ensures ok { OnOk result
+            (self.new
+            ≡ record self.old { finalized = self.old.finalized ++ (round, height, digest) ∷ [] }) }
         ensures err { OnErr result (self.new ≡ self.old) }
     {
         push(alloc, &mut self.finalized, (round, height, digest))
@@ -208,6 +211,8 @@ pub trait EngineDefinition: Drop {
     ) -> Result<(), OutOfMemory>
         requires { out.old ≡ no_output }
         ensures peer { peer_of self.now engine.new ≡ peer_of self.now engine.old }
-        ensures passes { OnOk result (All (Passes (reports self.now)) (updates_of (peer_of self.now engine.old) out.new.finalized)) }
-        ensures told { OnOk result (IfSome (journal self.now) (λ told. told engine.new ≡ told engine.old ++ (event.now, out.new) ∷ [])) };
+        ensures passes { OnOk result (All (Passes (reports self.now))
+            (updates_of (peer_of self.now engine.old) out.new.finalized)) }
+        ensures told { OnOk result (IfSome (journal self.now)
+            (λ told. told engine.new ≡ told engine.old ++ (event.now, out.new) ∷ [])) };
 }

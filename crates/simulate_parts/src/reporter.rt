@@ -29,7 +29,8 @@ pub trait Reporter: Drop {
 
     /// Takes an activity.
     fn report(&mut self, activity: &Activity)
-        ensures { IfSome (told self.old) (λ before. IfSome (told self.new) (λ after. after ≡ before ++ activity.now ∷ [])) };
+        ensures { IfSome (told self.old) (λ before. IfSome (told self.new)
+            (λ after. after ≡ before ++ activity.now ∷ [])) };
 }
 
 /// A listener that keeps an update for each tip and passes every activity on to another listener.
@@ -59,9 +60,13 @@ impl MonitorReporter {
     /// Keeps the update of a tip, and passes the activity on. A refused call keeps and passes on nothing.
     pub fn report(&mut self, activity: Activity) -> Result<(), OutOfMemory>
         ensures peer { reporting_peer self.new ≡ reporting_peer self.old }
-        ensures kept { OnOk result (kept_updates self.new ≡ kept_updates self.old ++ update_of_activity (reporting_peer self.old) activity) }
-        ensures passed { OnOk result (IfSome (told (inner_reporter self.old)) (λ before. IfSome (told (inner_reporter self.new)) (λ after. after ≡ before ++ activity ∷ []))) }
-        ensures refused { OnErr result ((kept_updates self.new ≡ kept_updates self.old) × (inner_reporter self.new ≡ inner_reporter self.old)) }
+        ensures kept { OnOk result (kept_updates self.new ≡ kept_updates self.old
+            ++ update_of_activity (reporting_peer self.old) activity) }
+        ensures passed { OnOk result (IfSome (told (inner_reporter self.old))
+            (λ before. IfSome (told (inner_reporter self.new))
+            (λ after. after ≡ before ++ activity ∷ []))) }
+        ensures refused { OnErr result ((kept_updates self.new ≡ kept_updates self.old)
+            × (inner_reporter self.new ≡ inner_reporter self.old)) }
     {
         if let Activity::Tip {
             round,

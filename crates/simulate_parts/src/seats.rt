@@ -50,7 +50,8 @@ pub fn start_engine<D: EngineDefinition>(
     seats: &mut Seats<D>,
     start: Start,
 ) -> Result<(), OutOfMemory>
-    ensures ok { OnOk result (Starts (D.peer_of definition.now) (D.made definition.now) (D.journal definition.now) participants.now start seats.old.entries seats.new.entries) }
+    ensures ok { OnOk result (Starts (D.peer_of definition.now) (D.made definition.now)
+        (D.journal definition.now) participants.now start seats.old.entries seats.new.entries) }
     ensures err { OnErr result (seats.new.entries ≡ seats.old.entries) }
 {
     let restart = starts_of(seats.get(&start.pk));
@@ -140,7 +141,8 @@ pub fn step_engine<D: EngineDefinition>(
 ) -> Result<bool, OutOfMemory>
     requires { out.old ≡ no_output }
     ensures ran { IfOk result (λ ran. ran ≡ runs seats.old.entries pk.now) }
-    ensures stepped { result ≡ Ok true → Steps (D.peer_of definition.now) (D.journal definition.now) (D.reports definition.now) pk.now event.now out.new seats.old.entries seats.new.entries }
+    ensures stepped { result ≡ Ok true → Steps (D.peer_of definition.now) (D.journal definition.now)
+        (D.reports definition.now) pk.now event.now out.new seats.old.entries seats.new.entries }
     ensures idle { result ≡ Ok false → (seats.new.entries ≡ seats.old.entries) × (out.new ≡ no_output) }
 {
     if !is_running(seats, pk) {
@@ -165,7 +167,8 @@ fn step_seat<D: EngineDefinition>(
 ) -> Result<(), OutOfMemory>
     requires empty { out.old ≡ no_output }
     requires runs { IsSome seat.old.running }
-    ensures { OnOk result (StepsSeat (D.peer_of definition.now) (D.journal definition.now) (D.reports definition.now) event.now out.new seat.old seat.new) }
+    ensures { OnOk result (StepsSeat (D.peer_of definition.now) (D.journal definition.now)
+        (D.reports definition.now) event.now out.new seat.old seat.new) }
 {
     match &mut seat.running {
         Some(running) => {
@@ -221,7 +224,8 @@ pub fn active_states<D: EngineDefinition>(
     alloc: Global,
     seats: &Seats<D>,
 ) -> Result<Vec<StateView>, OutOfMemory>
-    ensures { IfOk result (λ views. views.items ≡ active_views D.State.height_of D.State.bytes_of seats.now.entries) }
+    ensures { IfOk result (λ views. views.items
+        ≡ active_views D.State.height_of D.State.bytes_of seats.now.entries) }
 {
     let mut views = Vec::new(alloc);
     for seat in seats.values() {

@@ -53,7 +53,10 @@ impl<D: EngineDefinition> Team<D> {
         fault: FaultConfig,
     ) -> Result<(), OutOfMemory>
         requires { Contains (participants_of self.old) pk.now }
-        ensures ok { OnOk result (Starts (D.peer_of (definition_of self.old)) (D.made (definition_of self.old)) (D.journal (definition_of self.old)) (participants_of self.old) (start_of (participants_of self.old) delayed fault pk.now) (seats_of self.old) (seats_of self.new)) }
+        ensures ok { OnOk result (Starts (D.peer_of (definition_of self.old))
+            (D.made (definition_of self.old)) (D.journal (definition_of self.old))
+            (participants_of self.old) (start_of (participants_of self.old) delayed fault pk.now)
+            (seats_of self.old) (seats_of self.new)) }
         ensures err { OnErr result (seats_of self.new ≡ seats_of self.old) }
         ensures participants { participants_of self.new ≡ participants_of self.old }
         ensures definition { definition_of self.new ≡ definition_of self.old }
@@ -82,7 +85,10 @@ impl<D: EngineDefinition> Team<D> {
         fault: FaultConfig,
     ) -> Result<(), OutOfMemory>
         requires { Contains (participants_of self.old) pk.now }
-        ensures ok { OnOk result (Starts (D.peer_of (definition_of self.old)) (D.made (definition_of self.old)) (D.journal (definition_of self.old)) (participants_of self.old) (start_of (participants_of self.old) delayed fault pk.now) (seats_of self.old) (seats_of self.new)) }
+        ensures ok { OnOk result (Starts (D.peer_of (definition_of self.old))
+            (D.made (definition_of self.old)) (D.journal (definition_of self.old))
+            (participants_of self.old) (start_of (participants_of self.old) delayed fault pk.now)
+            (seats_of self.old) (seats_of self.new)) }
         ensures err { OnErr result (seats_of self.new ≡ seats_of self.old) }
         ensures participants { participants_of self.new ≡ participants_of self.old }
         ensures definition { definition_of self.new ≡ definition_of self.old }
@@ -93,8 +99,14 @@ impl<D: EngineDefinition> Team<D> {
     /// Starts the participants that aren't delayed, in their order. A refused call keeps those that it
     /// started.
     pub fn start(&mut self, delayed: &[Peer], fault: FaultConfig) -> Result<(), OutOfMemory>
-        ensures ok { OnOk result (StartsAll (D.peer_of (definition_of self.old)) (D.made (definition_of self.old)) (D.journal (definition_of self.old)) (participants_of self.old) fault (others delayed.now (participants_of self.old)) (seats_of self.old) (seats_of self.new)) }
-        ensures err { OnErr result ((n : ℕ) × StartsAll (D.peer_of (definition_of self.old)) (D.made (definition_of self.old)) (D.journal (definition_of self.old)) (participants_of self.old) fault (others delayed.now (take n (participants_of self.old))) (seats_of self.old) (seats_of self.new)) }
+        ensures ok { OnOk result (StartsAll (D.peer_of (definition_of self.old))
+            (D.made (definition_of self.old)) (D.journal (definition_of self.old))
+            (participants_of self.old) fault (others delayed.now (participants_of self.old))
+            (seats_of self.old) (seats_of self.new)) }
+        ensures err { OnErr result ((n : ℕ) × StartsAll (D.peer_of (definition_of self.old))
+            (D.made (definition_of self.old)) (D.journal (definition_of self.old))
+            (participants_of self.old) fault (others delayed.now (take n (participants_of self.old)))
+            (seats_of self.old) (seats_of self.new)) }
         ensures participants { participants_of self.new ≡ participants_of self.old }
         ensures definition { definition_of self.new ≡ definition_of self.old }
     {
@@ -115,7 +127,11 @@ impl<D: EngineDefinition> Team<D> {
         fault: FaultConfig,
     ) -> Result<(), OutOfMemory>
         requires { i < length (participants_of self.old) }
-        ensures ok { OnOk result (StartsAll (D.peer_of (definition_of self.old)) (D.made (definition_of self.old)) (D.journal (definition_of self.old)) (participants_of self.old) fault (others delayed.now (option_to_list (slice_get (participants_of self.old) i))) (seats_of self.old) (seats_of self.new)) }
+        ensures ok { OnOk result (StartsAll (D.peer_of (definition_of self.old))
+            (D.made (definition_of self.old)) (D.journal (definition_of self.old))
+            (participants_of self.old) fault (others delayed.now
+            (option_to_list (slice_get (participants_of self.old) i))) (seats_of self.old)
+            (seats_of self.new)) }
         ensures err { OnErr result (seats_of self.new ≡ seats_of self.old) }
         ensures participants { participants_of self.new ≡ participants_of self.old }
         ensures definition { definition_of self.new ≡ definition_of self.old }
@@ -140,7 +156,8 @@ impl<D: EngineDefinition> Team<D> {
 
     /// How checks see the states of the peers that run, in ascending order of peers.
     pub fn active_states(&self) -> Result<Vec<StateView>, OutOfMemory>
-        ensures { IfOk result (λ views. views.items ≡ active_views D.State.height_of D.State.bytes_of (seats_of self.now)) }
+        ensures { IfOk result (λ views. views.items
+            ≡ active_views D.State.height_of D.State.bytes_of (seats_of self.now)) }
     {
         active_states(self.alloc, &self.seats)
     }

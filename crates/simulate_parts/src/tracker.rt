@@ -89,7 +89,8 @@ impl ProgressTracker {
         ensures ok { IfOk result (λ t. t ≡ tracker_of updates.now) }
         ensures agree { OnOk result (Agree updates.now) }
         ensures may { OnOk result (first_fault updates.now ≡ None) }
-        ensures refuses { IfErr result (λ e. (e ≡ ObserveFault.OutOfMemory) ⊎ (first_fault updates.now ≡ Some e)) }
+        ensures refuses { IfErr result (λ e. (e ≡ ObserveFault.OutOfMemory)
+            ⊎ (first_fault updates.now ≡ Some e)) }
     {
         let mut tracker = ProgressTracker::default(alloc);
         for update in updates {
@@ -105,7 +106,8 @@ impl ProgressTracker {
     pub fn observe_copy(&mut self, update: &FinalizationUpdate) -> Result<(), ObserveFault>
         ensures ok { OnOk result (self.new ≡ observed self.old update.now) }
         ensures may { OnOk result (observe_fault self.old update.now ≡ None) }
-        ensures refuses { IfErr result (λ e. (e ≡ ObserveFault.OutOfMemory) ⊎ (observe_fault self.old update.now ≡ Some e)) }
+        ensures refuses { IfErr result (λ e. (e ≡ ObserveFault.OutOfMemory)
+            ⊎ (observe_fault self.old update.now ≡ Some e)) }
     {
         match update.copy(self.alloc) {
             Ok(update) => self.observe(update),
@@ -119,8 +121,10 @@ impl ProgressTracker {
     pub fn observe(&mut self, update: FinalizationUpdate) -> Result<(), ObserveFault>
         ensures ok { OnOk result (self.new ≡ observed self.old update) }
         ensures may { OnOk result (observe_fault self.old update ≡ None) }
-        ensures refuses { IfErr result (λ e. (e ≡ ObserveFault.OutOfMemory) ⊎ (observe_fault self.old update ≡ Some e)) }
-        ensures height { IsTrue (disagrees_at_height self.old update) → result ≡ Err (ObserveFault.Height update.height) }
+        ensures refuses { IfErr result (λ e. (e ≡ ObserveFault.OutOfMemory)
+            ⊎ (observe_fault self.old update ≡ Some e)) }
+        ensures height { IsTrue (disagrees_at_height self.old update)
+            → result ≡ Err (ObserveFault.Height update.height) }
         ensures stays { IfErr result (λ e. AfterRefusal self.old update e self.new) }
     {
         let digest = update.block_digest.as_slice();
@@ -143,7 +147,8 @@ impl ProgressTracker {
 
     /// Whether at least `total` validators have finalized a view of at least `required`, in any epoch.
     pub fn all_reached(&self, total: usize, required: u64) -> bool
-        ensures { result ≡ nat_le total (count_by (λ r. nat_le required r.view) (finalized_rounds self.now)) }
+        ensures { result ≡ nat_le total (count_by (λ r. nat_le required r.view)
+            (finalized_rounds self.now)) }
     {
         self.validators
             .values()
@@ -156,7 +161,8 @@ impl ProgressTracker {
     pub fn min_view(&self) -> u64
         ensures none { finalized_rounds self.now ≡ [] → result ≡ 0 }
         ensures least { All (λ r. result ≤ r.view) (finalized_rounds self.now) }
-        ensures among { finalized_rounds self.now ≢ [] → Contains (map (λ r. r.view) (finalized_rounds self.now)) result }
+        ensures among { finalized_rounds self.now ≢ []
+            → Contains (map (λ r. r.view) (finalized_rounds self.now)) result }
     {
         self.validators
             .values()
@@ -167,7 +173,9 @@ impl ProgressTracker {
 
     /// The greatest round that a validator has finalized, None where none has.
     pub fn max_round(&self) -> Option<Round>
-        ensures { MatchOption result (finalized_rounds self.now ≡ []) (λ r. Contains (finalized_rounds self.now) r × All (λ q. round_cmp q r ≢ Greater) (finalized_rounds self.now)) }
+        ensures { MatchOption result (finalized_rounds self.now ≡ [])
+            (λ r. Contains (finalized_rounds self.now) r
+            × All (λ q. round_cmp q r ≢ Greater) (finalized_rounds self.now)) }
     {
         self.validators.values().copied().max()
     }

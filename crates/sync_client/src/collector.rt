@@ -104,7 +104,8 @@ impl<Op: Leaf + Copy> Collector<Op> {
         ensures asks { Asks result self.old self.new }
         ensures within { IfOk result
             (λ found. IfSome found (λ r. (r.start < r.end) × (r.end ≤ self.old.plan.target.end))) }
-        ensures outstanding { IfOk result (λ found. IfSome found (λ r. IsOutstanding r (ranges_of self.new.pending))) }
+        ensures outstanding { IfOk result (λ found. IfSome found
+            (λ r. IsOutstanding r (ranges_of self.new.pending))) }
         ensures tiles { Tiles self.new }
     {
         if self.pending.len() >= self.limits.outstanding() {
@@ -135,7 +136,8 @@ impl<Op: Leaf + Copy> Collector<Op> {
         response: GetOperationsResponse<Op>,
     ) -> Result<(), CollectFault>
         requires { IsOutstanding asked (ranges_of self.old.pending) }
-        ensures accepts { Accepts result (judged_by sha256 Op.spelling) asked request_id response self.old self.new }
+        ensures accepts { Accepts result (judged_by sha256 Op.spelling) asked request_id response self.old
+            self.new }
         ensures tiles { Tiles self.new }
     {
         let target = target_for(&self.pending, &asked, &self.target);

@@ -46,7 +46,8 @@ pub(crate) fn list_behind<Op: Leaf>(
 ) -> Result<MerkleList<Sha256Hasher>, OutOfMemory>
     requires nodes { length nodes.items ≡ count_ones start }
     requires room { start + length ops.now ≤ 2 ^ 62 }
-    ensures { IfOk result (λ list. list ≡ leaves_behind sha256 nodes.items start (map Op.spelling ops.now)) }
+    ensures { IfOk result (λ list. list ≡ leaves_behind sha256 nodes.items start
+        (map Op.spelling ops.now)) }
 {
     match MerkleList::<Sha256Hasher>::from_parts(alloc, start, nodes) {
         Some(list) => {

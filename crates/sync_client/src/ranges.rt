@@ -26,7 +26,8 @@ pub(crate) fn move_first(
     ensures ok { IfOk result (λ r.
         (rests.old.items ≡ r ∷ rests.new.items)
         × (pending.new.items ≡ pending.old.items ++ record { range = r; target = target.now } ∷ [])) }
-    ensures err { OnErr result ((rests.new.items ≡ rests.old.items) × (pending.new.items ≡ pending.old.items)) }
+    ensures err { OnErr result ((rests.new.items ≡ rests.old.items)
+        × (pending.new.items ≡ pending.old.items)) }
 {
     let start = rests[0].start;
     let end = rests[0].end;

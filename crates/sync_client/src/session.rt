@@ -162,12 +162,12 @@ fn collect<Op: Leaf + Spell + Copy, L: Link, Ts: Targets>(
         machine.new collector.new (Ts.answers updates.new) (L.wire link.new) (L.faults link.new) }
     ensures serving { (held : LogData) (first : Target) (left : List (Option Target))
         → AreSent Op.reading Op.written Op.spelling Op.Spell.sound
-        → (h : Serves Op.written Op.Spell.sound held first)
-        → length left ≤ length (Ts.answers updates.new)
-        → IsServed Op.written held h.log left (seen machine.old collector.old (beside 0 (Ts.answers updates.old)))
-        machine.old.held machine.old.closed (L.service link.old)
-        → ServesOn Op.written held h.log left result
-        machine.new collector.new (Ts.answers updates.new) (L.service link.new) }
+        → (h : Serves Op.written Op.Spell.sound held first) → length left ≤ length (Ts.answers updates.new)
+        → IsServed Op.written held h.log left
+        (seen machine.old collector.old (beside 0 (Ts.answers updates.old))) machine.old.held
+        machine.old.closed (L.service link.old)
+        → ServesOn Op.written held h.log left result machine.new collector.new (Ts.answers updates.new)
+        (L.service link.new) }
 {
     let mut buffer = [0; BUFFER_SIZE];
     let mut strays = 0;

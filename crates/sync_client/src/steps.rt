@@ -112,7 +112,8 @@ fn heed<Op: Leaf + Spell + Copy, Ts: Targets>(
     collector: &mut Collector<Op>,
     updates: &mut Ts,
 ) -> Result<(), SyncFault>
-    ensures heeds { Heeds result collector.old collector.new (Ts.answers updates.old) (Ts.answers updates.new) }
+    ensures heeds { Heeds result collector.old collector.new (Ts.answers updates.old)
+        (Ts.answers updates.new) }
     ensures tiles { Tiles collector.new }
 {
     if collector.is_settled() {

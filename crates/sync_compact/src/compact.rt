@@ -102,7 +102,8 @@ fn state_reply<F: CompactFamily, H: Hasher, DB: CompactSyncable<F, H>>(
     number: u64,
     target: &CompactTarget,
 ) -> Result<Message<F::Op>, OutOfMemory>
-    ensures answer { IfOk result (λ reply. reply ≡ state_reply H.digest (DB.kept db.now) number target.now) }
+    ensures answer { IfOk result (λ reply. reply ≡ state_reply H.digest (DB.kept db.now) number
+        target.now) }
     ensures limits { IfOk result (λ reply. MessageFits (λ op. Unit {0}) reply) }
 {
     if target.leaf_count.get() == 0 {
@@ -146,7 +147,8 @@ fn refusal<Op>(
     words: &str,
 ) -> Result<Message<Op>, OutOfMemory>
     requires short { length words.now ≤ 100 }
-    ensures answer { IfOk result (λ reply. reply ≡ refuse number (record { code = code; text = words.now })) }
+    ensures answer { IfOk result (λ reply. reply ≡ refuse number
+        (record { code = code; text = words.now })) }
     ensures limits { IfOk result (λ reply. MessageFits (λ op. Unit {0}) reply) }
 {
     let text = String::from_str(alloc, words)?;

@@ -24,7 +24,8 @@ pub(crate) fn send_request<L: Link>(
     ensures exact { IsTrue L.exact → CountKept result (L.faults link.old) (L.faults link.new) }
     ensures steady { L.steady link.old →
         L.steady link.new × NeverNetwork result (L.faults link.old) (L.faults link.new) }
-    ensures sends { Sends result made (L.wire link.old) (L.wire link.new) (L.faults link.old) (L.faults link.new) }
+    ensures sends { Sends result made (L.wire link.old) (L.wire link.new) (L.faults link.old)
+        (L.faults link.new) }
     ensures serving { ServesSent result made (L.service link.old) (L.service link.new) }
 {
     let frame = match made {

@@ -36,7 +36,8 @@ pub trait Link {
     fn send(&mut self, bytes: &[u8]) -> Result<(), LinkError>
         ensures cause { HasCauseOf Failed (faults self.old) (faults self.new) result }
         ensures exact_count { IsTrue exact → CountStays (faults self.old) (faults self.new) result }
-        ensures steady_on { steady self.old → steady self.new × CannotFail (faults self.old) (faults self.new) result }
+        ensures steady_on { steady self.old → steady self.new
+            × CannotFail (faults self.old) (faults self.new) result }
         ensures wire_now { wire self.new ≡ wire_sent result bytes.now (wire self.old) }
         ensures service_now { service self.new ≡ service_sent result bytes.now (service self.old) };
 
@@ -45,7 +46,8 @@ pub trait Link {
         ensures bound { IfOk result (λ n. n ≤ length buffer.new) }
         ensures cause { HasCauseOf Failed (faults self.old) (faults self.new) result }
         ensures exact_count { IsTrue exact → CountStays (faults self.old) (faults self.new) result }
-        ensures steady_on { steady self.old → steady self.new × CannotFail (faults self.old) (faults self.new) result }
+        ensures steady_on { steady self.old → steady self.new
+            × CannotFail (faults self.old) (faults self.new) result }
         ensures wire_now { wire self.new ≡ wire_received result buffer.new (wire self.old) }
         ensures ends_again { EndsAgain (wire self.old) result }
         ensures service_now { ServiceReceived (service self.old) (service self.new) result buffer.new };

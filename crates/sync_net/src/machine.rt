@@ -288,7 +288,8 @@ fn answer_to<Op: Drop>(
     message: Message<Op>,
 ) -> Result<Answer<Op>, MachineFault>
     ensures replies { Replies result message pending.old.items pending.new.items }
-    ensures once { (next : Option ℕ) → AreNumbered next pending.old.items → Keeps next result pending.new.items }
+    ensures once { (next : Option ℕ) → AreNumbered next pending.old.items
+        → Keeps next result pending.new.items }
 {
     let number = message.request_id();
     match pending_of(pending, number) {

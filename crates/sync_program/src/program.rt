@@ -61,8 +61,8 @@ fn print<K: Sink>(synced: &Synced, out: &mut K) -> Result<(), Refusal>
 
 /// The outcome of a log that was synced, whose lines are written.
 fn printed<K: Sink>(synced: &Synced, out: &mut K) -> SyncOutcome
-    ensures { Printed synced.now
-        (sink_over K.grows (K.written out.old) (K.written out.new) (K.faults out.old) (K.faults out.new)) result }
+    ensures { Printed synced.now (sink_over K.grows (K.written out.old) (K.written out.new)
+        (K.faults out.old) (K.faults out.new)) result }
 {
     match print(synced, out) {
         Ok(()) => SyncOutcome {
@@ -97,11 +97,11 @@ pub fn run_sync<D: Dialer, K: Sink>(
 ) -> SyncOutcome
     ensures ended { Ended (form_of (map string_bytes words.now)) (D.dials dialer.old) (D.dials dialer.new)
         (link_over (D.service dialer.old) (D.wire dialer.old) (D.wire dialer.new) (D.faults dialer.old)
-        (D.faults dialer.new))
-        (sink_over K.grows (K.written out.old) (K.written out.new) (K.faults out.old) (K.faults out.new)) result }
-    ensures complete { Completes (form_of (map string_bytes words.now)) (D.dials dialer.old) (D.dials dialer.new)
-        (link_over (D.service dialer.old) (D.wire dialer.old) (D.wire dialer.new) (D.faults dialer.old)
-        (D.faults dialer.new))
+        (D.faults dialer.new)) (sink_over K.grows (K.written out.old) (K.written out.new) (K.faults out.old)
+        (K.faults out.new)) result }
+    ensures complete { Completes (form_of (map string_bytes words.now)) (D.dials dialer.old)
+        (D.dials dialer.new) (link_over (D.service dialer.old) (D.wire dialer.old) (D.wire dialer.new)
+        (D.faults dialer.old) (D.faults dialer.new))
         (sink_over K.grows (K.written out.old) (K.written out.new) (K.faults out.old) (K.faults out.new))
         result.status }
     ensures statuses { is_status result.status ≡ true }

@@ -23,7 +23,8 @@ pub(crate) fn framed_reply<F: SentFamily>(
 ) -> Result<Option<List<u8>>, OutOfMemory>
 where
     F::Op: Spell,
-    ensures reply { IfOk result (λ reply. reply ≡ reply_to (data_of F.Op.spelling F.floor_of log.now) bytes.now) }
+    ensures reply { IfOk result (λ reply. reply ≡ reply_to (data_of F.Op.spelling F.floor_of log.now)
+        bytes.now) }
     ensures some { IfOk result (λ reply. IfSome reply (λ bytes. 0 < length bytes)) }
 {
     match request_of::<F::Op>(alloc, bytes)? {
@@ -50,7 +51,8 @@ fn request_of<Op: Spell>(alloc: Global, bytes: &[u8]) -> Result<Option<Message<O
 
 /// The body of the frame that is all of these bytes.
 fn body_of(bytes: &[u8]) -> Option<&[u8]>
-    ensures { MatchOption result (asked bytes.now ≡ None) (λ body. front 10485760 bytes.now ≡ Whole body.now []) }
+    ensures { MatchOption result (asked bytes.now ≡ None)
+        (λ body. front 10485760 bytes.now ≡ Whole body.now []) }
 {
     match split_frame(MAX_MESSAGE_SIZE, bytes) {
         Ok(Some((body, rest))) => {

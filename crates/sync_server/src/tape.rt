@@ -123,7 +123,8 @@ impl Link for TapeLink {
         ensures exact_count { CountStays self.old.calls.faults self.new.calls.faults result }
         ensures steady_on { self.old.calls.failing ≡ [] →
             (self.new.calls.failing ≡ []) × CannotFail self.old.calls.faults self.new.calls.faults result }
-        ensures wire_now { Some (tape_wire self.new) ≡ wire_sent result bytes.now (Some (tape_wire self.old)) }
+        ensures wire_now { Some (tape_wire self.new) ≡ wire_sent result bytes.now
+            (Some (tape_wire self.old)) }
         ensures counted { Counts result self.old.calls self.new.calls }
         ensures kept { TapeSends result bytes.now self.old self.new }
     {
@@ -136,7 +137,8 @@ impl Link for TapeLink {
         ensures exact_count { CountStays self.old.calls.faults self.new.calls.faults result }
         ensures steady_on { self.old.calls.failing ≡ [] →
             (self.new.calls.failing ≡ []) × CannotFail self.old.calls.faults self.new.calls.faults result }
-        ensures wire_now { Some (tape_wire self.new) ≡ wire_received result buffer.new (Some (tape_wire self.old)) }
+        ensures wire_now { Some (tape_wire self.new) ≡ wire_received result buffer.new
+            (Some (tape_wire self.old)) }
         ensures ends_again { EndsAgain (Some (tape_wire self.old)) result }
         ensures counted { Counts result self.old.calls self.new.calls }
         ensures given { TapeReceives result buffer.new self.old self.new }

@@ -84,8 +84,8 @@ fn step<M: Spell, L: Link>(
     requires room { 0 < length buffer.old }
     ensures limit { OnOk result (frames.new.limit ≡ 10485760) }
     ensures later { L.faults link.old ≤ L.faults link.new }
-    ensures stepped { Stepped (message_of M.reading) (frame_of M.written) result frames.old.bytes frames.new.bytes
-        (L.wire link.old) (L.wire link.new) (L.faults link.old) (L.faults link.new) }
+    ensures stepped { Stepped (message_of M.reading) (frame_of M.written) result frames.old.bytes
+        frames.new.bytes (L.wire link.old) (L.wire link.new) (L.faults link.old) (L.faults link.new) }
 {
     match take_first(alloc, frames) {
         Ok(Found::Sent(message)) => return Ok(Some(message)),

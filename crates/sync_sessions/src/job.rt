@@ -73,8 +73,8 @@ where
 
     /// Does what [`run_session`] does, and lets the link go.
     pub fn run<R: Wait>(self, rt: &R) -> SessionEnd
-        ensures { RunsSession F.Op.reading F.Op.written F.floor_of (arc_value self.shared).opening F.Op.spelling
-            L.wire L.faults self.pass self.link result }
+        ensures { RunsSession F.Op.reading F.Op.written F.floor_of (arc_value self.shared).opening
+            F.Op.spelling L.wire L.faults self.pass self.link result }
     {
         let Session {
             alloc,

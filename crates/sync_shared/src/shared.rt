@@ -73,7 +73,8 @@ impl<F: Family> SharedLog<F> {
         requires some { 0 < passes }
         requires few { passes ≤ 8 }
         ensures log { IfOk result (λ r. (r.0.opening ≡ log) × (r.0.passes ≡ passes)) }
-        ensures passes { IfOk result (λ r. r.1.items ≡ map (fresh r.0.from turns) (range_with_len 0 passes)) }
+        ensures passes { IfOk result (λ r. r.1.items ≡ map (fresh r.0.from turns)
+            (range_with_len 0 passes)) }
     {
         let (lock, passes) = TurnLock::<LogCalls<F>>::share(alloc, log, passes, turns)?;
         Ok((SharedLog { lock }, passes))

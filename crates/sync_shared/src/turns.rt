@@ -27,7 +27,8 @@ fn reply_to<F: Family>(
     log: &Log<F, Sha256Hasher>,
     message: &Message<F::Op>,
 ) -> Result<Message<F::Op>, OutOfMemory>
-    ensures reply { IfOk result (λ reply. reply ≡ core sha256 F.Op.spelling (log_floor F.floor_of log.now) log.now message.now) }
+    ensures reply { IfOk result (λ reply. reply ≡ core sha256 F.Op.spelling (log_floor F.floor_of log.now)
+        log.now message.now) }
     ensures limits { IfOk result (λ reply. MessageFits (λ op. Unit {0}) reply) }
 {
     let asked = match message {
@@ -48,9 +49,11 @@ pub(crate) fn serve_held<F: Family>(
     message: Message<F::Op>,
 ) -> Result<Message<F::Op>, OutOfMemory>
     ensures log { held.new.value ≡ held.old.value }
-    ensures reply { IfOk result (λ reply. reply ≡ core sha256 F.Op.spelling (log_floor F.floor_of held.old.value) held.old.value message) }
+    ensures reply { IfOk result (λ reply. reply ≡ core sha256 F.Op.spelling
+        (log_floor F.floor_of held.old.value) held.old.value message) }
     ensures limits { IfOk result (λ reply. MessageFits (λ op. Unit {0}) reply) }
-    ensures entry { IfOk result (λ reply. held.new.history.items ≡ held.old.history.items ++ entry caller (Request message) (Replied (log_size held.old.value)) ∷ []) }
+    ensures entry { IfOk result (λ reply. held.new.history.items ≡ held.old.history.items
+        ++ entry caller (Request message) (Replied (log_size held.old.value)) ∷ []) }
     ensures none { OnErr result (held.new.history.items ≡ held.old.history.items) }
 {
     if held.history.reserve(1).is_err() {

@@ -28,8 +28,10 @@ fn deal_at<F: Guarded>(
     requires some { 0 < left }
     requires dealer { Deals seat.old caller left }
     ensures same { IsSame seat.old seat.new }
-    ensures dealer { Deals seat.new (caller + 1) (left - 1) × (seat.new.me.0.opening ≡ seat.old.me.0.opening) }
-    ensures pass { result ≡ fresh record { table = seat.old.table_id; opening = seat.old.me.0.opening } turns caller }
+    ensures dealer { Deals seat.new (caller + 1) (left - 1)
+        × (seat.new.me.0.opening ≡ seat.old.me.0.opening) }
+    ensures pass { result ≡ fresh record { table = seat.old.table_id; opening = seat.old.me.0.opening }
+        turns caller }
 {
     let shared = &board.shared;
     let one = shared.split_seat::<Deal>(seat);
@@ -55,7 +57,8 @@ fn open_at<F: Guarded>(
 >
     requires { passes ≤ 8 }
     ensures seat { IfOk result (λ r. Fit r.0.shared.table_id r.1 × Deals r.1 0 passes) }
-    ensures key { IfOk result (λ r. (r.1.me.0.opening ≡ Some value) × (r.0.shared.key.opening.value ≡ value) × (r.0.shared.key.passes ≡ passes)) }
+    ensures key { IfOk result (λ r. (r.1.me.0.opening ≡ Some value) × (r.0.shared.key.opening.value ≡ value)
+        × (r.0.shared.key.passes ≡ passes)) }
 {
     let key = Key {
         opening: Snapshot::of(&value),
@@ -83,7 +86,8 @@ fn deal_all<F: Guarded>(
 ) -> Result<Vec<Pass<F>>, AllocError>
     requires seat { Fit board.now.shared.table_id seat }
     requires dealer { Deals seat 0 passes }
-    ensures { IfOk result (λ v. v.items ≡ map (fresh record { table = seat.table_id; opening = seat.me.0.opening } turns) (range_with_len 0 passes)) }
+    ensures { IfOk result (λ v. v.items ≡ map (fresh
+        record { table = seat.table_id; opening = seat.me.0.opening } turns) (range_with_len 0 passes)) }
 {
     let mut made = Vec::new(alloc);
     for caller in 0..passes {
@@ -158,7 +162,8 @@ impl<F: Guarded> TurnLock<F> {
         requires some { 0 < passes }
         requires few { passes ≤ 8 }
         ensures lock { IfOk result (λ r. (r.0.opening ≡ value) × (r.0.passes ≡ passes)) }
-        ensures passes { IfOk result (λ r. r.1.items ≡ map (fresh r.0.from turns) (range_with_len 0 passes)) }
+        ensures passes { IfOk result (λ r. r.1.items ≡ map (fresh r.0.from turns)
+            (range_with_len 0 passes)) }
     {
         let (table, seat) = open_at::<F>(alloc, value, passes as u64)?;
         let made = deal_all::<F>(alloc, &table, seat, passes, turns)?;

@@ -26,8 +26,10 @@ impl Guarded for Sum {
 
 /// Adds a number, where there is memory and the sum isn't too great.
 fn grow(held: &mut Held<u64, u64, u64>, caller: usize, more: u64) -> Option<u64>
-    ensures some { IfSome result (λ sum. (sum ≡ held.old.value + more) × (held.new.value ≡ sum) × (held.new.history.items ≡ held.old.history.items ++ entry caller more sum ∷ [])) }
-    ensures none { IfNone result ((held.new.value ≡ held.old.value) × (held.new.history.items ≡ held.old.history.items)) }
+    ensures some { IfSome result (λ sum. (sum ≡ held.old.value + more) × (held.new.value ≡ sum)
+        × (held.new.history.items ≡ held.old.history.items ++ entry caller more sum ∷ [])) }
+    ensures none { IfNone result ((held.new.value ≡ held.old.value)
+        × (held.new.history.items ≡ held.old.history.items)) }
 {
     let sum = held.value.checked_add(more)?;
     if held.history.reserve(1).is_err() {
@@ -64,8 +66,10 @@ fn add_both<R: Threads + Wait + Sync>(
     one: &mut Pass<Sum>,
     two: &mut Pass<Sum>,
 ) -> (Option<u64>, Option<u64>)
-    requires one { (one.old.from ≡ lock.now.from) × (one.old.within ≡ false) × (one.old.used ≢ one.old.turns) }
-    requires two { (two.old.from ≡ lock.now.from) × (two.old.within ≡ false) × (two.old.used ≢ two.old.turns) }
+    requires one { (one.old.from ≡ lock.now.from) × (one.old.within ≡ false)
+        × (one.old.used ≢ one.old.turns) }
+    requires two { (two.old.from ≡ lock.now.from) × (two.old.within ≡ false)
+        × (two.old.used ≢ two.old.turns) }
 {
     join(rt, || add(rt, lock, one, 1), || add(rt, lock, two, 2))
 }

@@ -15,7 +15,8 @@ impl<F: KeyedFamily, H: Hasher> Log<F, H> {
     /// changes, in ascending order. It costs what it gives and skips. Refused for want of memory alone.
     pub fn active_from(&self, loc: Location, limit: usize) -> Result<Vec<Location>, LogFault>
         ensures may { IsOkUnless result LogFault.OutOfMemory }
-        ensures ok { IfOk result (λ places. places.items ≡ take limit (active_from F.write_of self.now loc)) }
+        ensures ok { IfOk result (λ places. places.items
+            ≡ take limit (active_from F.write_of self.now loc)) }
     {
         let _size = self.size();
         let found = self.living_behind(&[], loc, limit)?;
@@ -33,7 +34,8 @@ impl<F: KeyedFamily, H: Hasher> Log<F, H> {
     ) -> Result<Vec<(Location, F::Op)>, LogFault>
         requires { log_size self.now + length more.now ≤ 2 ^ 62 }
         ensures may { IsOkUnless result LogFault.OutOfMemory }
-        ensures ok { IfOk result (λ found. found.items ≡ take limit (living_from F.write_of self.now more.now loc)) }
+        ensures ok { IfOk result (λ found. found.items
+            ≡ take limit (living_from F.write_of self.now more.now loc)) }
     {
         let later = index_of::<F>(self.alloc, more, self.size().get())?;
         let end = self.size().get() + more.len() as u64;
@@ -121,7 +123,8 @@ fn places_of<T: Copy>(alloc: Global, found: &[(Location, T)]) -> Result<Vec<Loca
 /// The item at this place of two lists, one behind the other.
 fn pick<'a, T: Copy>(first: &'a [T], second: &'a [T], place: usize) -> &'a T
     requires { place < length first.now + length second.now }
-    ensures { drop place (first.now ++ second.now) ≡ result.now ∷ drop (place + 1) (first.now ++ second.now) }
+    ensures { drop place (first.now ++ second.now)
+        ≡ result.now ∷ drop (place + 1) (first.now ++ second.now) }
 {
     if place < first.len() {
         &first[place]

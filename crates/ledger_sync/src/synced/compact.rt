@@ -21,10 +21,11 @@ where
     F::Op: Spell,
     ensures compact { IfOk result (λ synced. (synced.family ≡ family)
         × IsCompact F.Op.spelling F.floor_of F.Op.reading F.Op.written
-        (link_over (L.service link.old) (L.wire link.old) (L.wire link.new) (L.faults link.old) (L.faults link.new))
-        synced) }
+        (link_over (L.service link.old) (L.wire link.old) (L.wire link.new) (L.faults link.old)
+        (L.faults link.new)) synced) }
     ensures fails { IfErr result (IsNoCompact F.Op.spelling F.floor_of F.Op.reading F.Op.written
-        (link_over (L.service link.old) (L.wire link.old) (L.wire link.new) (L.faults link.old) (L.faults link.new))) }
+        (link_over (L.service link.old) (L.wire link.old) (L.wire link.new) (L.faults link.old)
+        (L.faults link.new))) }
     ensures few { IfErr result CanFail }
 {
     let mut machine = Machine::new(alloc, Generator::new());

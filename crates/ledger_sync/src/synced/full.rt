@@ -26,10 +26,11 @@ where
     F::Op: Spell,
     ensures full { IfOk result (λ synced. (synced.family ≡ family)
         × IsFull F.Op.spelling F.floor_of F.Op.reading F.Op.written limits.now
-        (link_over (L.service link.old) (L.wire link.old) (L.wire link.new) (L.faults link.old) (L.faults link.new))
-        synced) }
+        (link_over (L.service link.old) (L.wire link.old) (L.wire link.new) (L.faults link.old)
+        (L.faults link.new)) synced) }
     ensures fails { IfErr result (IsNoFull F.Op.spelling F.floor_of F.Op.reading F.Op.written limits.now
-        (link_over (L.service link.old) (L.wire link.old) (L.wire link.new) (L.faults link.old) (L.faults link.new))) }
+        (link_over (L.service link.old) (L.wire link.old) (L.wire link.new) (L.faults link.old)
+        (L.faults link.new))) }
     ensures few { IfErr result CanFail }
     ensures serving { (held : LogData) → StandsFor F.Op.written F.Op.Spell.sound F.floor_of held
         → AreSent F.Op.reading F.Op.written F.Op.spelling F.Op.Spell.sound

@@ -29,7 +29,8 @@ fn operations(alloc: Global) -> Result<Vec<KeylessOp>, AllocError>
 
 /// A compact log of three operations: it is what is kept of the full log of the same three.
 fn appended(alloc: Global) -> Result<Compact, LogFault>
-    ensures { IfOk result (λ log. compact_of sha256 keyless_spelling (with_ops (fresh_log keyless_commit) one_more) ≡ Some log) }
+    ensures { IfOk result (λ log. compact_of sha256 keyless_spelling
+        (with_ops (fresh_log keyless_commit) one_more) ≡ Some log) }
 {
     let ops = operations(alloc)?;
     let mut log = Compact::fresh(alloc)?;
@@ -59,7 +60,8 @@ fn of_full(alloc: Global, log: &Full) -> Result<Compact, LogFault>
 /// is kept of the other.
 fn grown(alloc: Global) -> Result<Twins<KeylessFamily, Sha256Hasher>, LogFault>
     ensures taken { IsOkUnless result LogFault.OutOfMemory }
-    ensures agree { IfOk result (λ twins. compact_of sha256 keyless_spelling twins.full ≡ Some twins.compact) }
+    ensures agree { IfOk result (λ twins. compact_of sha256 keyless_spelling twins.full
+        ≡ Some twins.compact) }
 {
     let mut twins = run_both::<KeylessFamily, Sha256Hasher>(alloc, &[])?;
     let _ = agree(&twins.full, &twins.compact);

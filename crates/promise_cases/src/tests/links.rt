@@ -79,7 +79,8 @@ fn only_target(alloc: Global, link: &mut TapeLink) -> Result<Target, SyncFault>
     requires ended { link.old.ended ≡ false }
     ensures { IfOk result (λ target. (other : Reply AnyOperation)
         → Exchange any_at (pending_of 1 asks.SyncTarget) link.new.given link.new.ended other
-        → (answer : GetSyncTargetResponse) × (answer.target ≡ target) × (other ≡ Answered (messages.GetSyncTargetResponse answer))) }
+        → (answer : GetSyncTargetResponse) × (answer.target ≡ target)
+        × (other ≡ Answered (messages.GetSyncTargetResponse answer))) }
 {
     let mut machine: Machine<AnyOp> = Machine::new(alloc, Generator::new());
     fetch_target(&mut machine, link)

@@ -79,7 +79,8 @@ fn three(alloc: Global) -> Result<MerkleList<Sha256Hasher>, OutOfMemory>
 /// The proof of the last of three leaves: its digests are the peaks before it, and it is right.
 fn last_of_three(alloc: Global) -> Result<Proof, OutOfMemory>
     ensures digests { IfOk result (λ proof. proof.digests ≡ peaks_at sha256 three_leaves 2) }
-    ensures right { IfOk result (λ proof. RangeOk sha256 (root_at sha256 three_leaves 3) proof.leaves proof.inactive_peaks proof.digests 3 2 (replicate 32 3 ∷ [])) }
+    ensures right { IfOk result (λ proof. RangeOk sha256 (root_at sha256 three_leaves 3) proof.leaves
+        proof.inactive_peaks proof.digests 3 2 (replicate 32 3 ∷ [])) }
 {
     let list = three(alloc)?;
     list.proof(at(3), at(2), 1)

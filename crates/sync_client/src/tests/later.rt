@@ -182,7 +182,8 @@ fn fetched<L: Link>(
 ) -> Option<Part<KeylessOp>>
     ensures { (held : LogData) (h : Serves keyless_spelling IsSoundKeyless held target.now)
         → OwesNothing held (L.service link.old)
-        → IfSome result (λ part. part.ops ≡ log_range h.log target.now.start (target.now.end - target.now.start)) }
+        → IfSome result (λ part. part.ops ≡ log_range h.log target.now.start
+        (target.now.end - target.now.start)) }
 {
     let mut machine: Machine<KeylessOp> = Machine::new(alloc, Generator::new());
     match sync_full(alloc, target, &mut NoTargets, limits, &mut machine, link) {

@@ -44,7 +44,8 @@ fn status_over_fresh<K: Sink>(
     dialer: &mut MemoryDialer<MemoryLink<AnyFamily>>,
     out: &mut K,
 ) -> u8
-    requires { OwesNothing (data_of any_spelling any_floor fresh_any) (service_of (dialed_link dialer.old).lost
+    requires { OwesNothing (data_of any_spelling any_floor fresh_any)
+        (service_of (dialed_link dialer.old).lost
         (service_told any_spelling any_floor (dialed_link dialer.old))) }
     ensures { (asked : Form) → form_of (map string_bytes words.now) ≡ Some asked → asked.mode ≡ full_mode
         → asked.family ≡ any_family
