@@ -3,13 +3,12 @@
 answer by answer and checks against its root; and `follow` over a socket, from a peer in Python whose log has as many
 operations, to its last root, and to its first with eight later targets, which are taken on the way to the same root.
 
-    python3 bench/follow.py [--accounts N] [--batch N] [--outstanding N] [--against PROGRAM] [--times N]
+    python3 bench/follow.py [--accounts N] [--batch N] [--outstanding N] [--against COMMAND] [--times N] [--instructions]
 
-Runs crates/ledger_main/out/ledger_main, which `rt ci` leaves there. With --against it runs another program for the
-same job in turn with it, compares what both print, and prints the ratio of the medians. The last line says how long
-hashing alone takes by Python's hashlib: two compressions a leaf and a node.
+Runs crates/ledger_main/out/ledger_main, which `rt ci` leaves there. --against and --instructions are those of
+bench/local.py, for the first job. The last line says how long hashing alone takes by Python's hashlib: two
+compressions a leaf and a node.
 """
-import argparse
 import pathlib
 import resource
 import statistics
@@ -74,14 +73,12 @@ def over_a_socket(given):
 
 
 def main():
-    options = argparse.ArgumentParser()
+    options = local.options_of(3)
     options.add_argument("--accounts", type=int, default=1_000_000)
     options.add_argument("--batch", type=int, default=100)
     options.add_argument("--outstanding", type=int, default=16)
-    options.add_argument("--times", type=int, default=3)
-    options.add_argument("--against")
     given = options.parse_args()
-    local.compare("following", job(given.accounts, given.batch, given.outstanding), given)
+    local.compare("following", job(given.accounts, given.batch, given.outstanding), ["local"], given.against, given)
     over_a_socket(given)
     print(f"hashing {given.accounts} leaves and their nodes by hashlib: {local.hashing(given.accounts):.3f} s")
 
