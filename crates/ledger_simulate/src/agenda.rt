@@ -35,7 +35,8 @@ impl Agenda {
 
     /// Makes an event that is due after a delay. A refused call makes none.
     pub fn after(&mut self, delay: u64, event: Event) -> Result<(), OutOfMemory>
-        ensures ok { OnOk result (self.new ≡ record self.old { events = self.old.events ++ (delay, event) ∷ [] }) }
+        ensures ok { OnOk result
+            (self.new ≡ record self.old { events = self.old.events ++ (delay, event) ∷ [] }) }
         ensures err { OnErr result (self.new ≡ self.old) }
     {
         match self.events.push((delay, event)) {

@@ -52,7 +52,8 @@ pub fn check_properties(
     tracker: &ProgressTracker,
     states: &[StateView],
 ) -> Result<(), Stop>
-    ensures ok { OnOk result (All (λ p. property_complaint p tracker.now states.now ≡ None) properties.now) }
+    ensures ok { OnOk result
+        (All (λ p. property_complaint p tracker.now states.now ≡ None) properties.now) }
     ensures objects { IfErr result (IsObjection (λ p. property_name p) (λ p. property_complaint p)
         properties.now tracker.now states.now) }
     ensures asked { IfErr result (λ s. IsTrue (stops_asked s)) }
@@ -118,7 +119,8 @@ fn ask_condition(
     states: &[StateView],
     target_count: usize,
 ) -> Result<bool, Stop>
-    ensures ok { IfOk result (λ reached. exit_verdict condition.now tracker.now states.now target_count ≡ Ok reached) }
+    ensures ok { IfOk result
+        (λ reached. exit_verdict condition.now tracker.now states.now target_count ≡ Ok reached) }
     ensures err { IfErr result (IsExitFault (exit_name condition.now)
         (exit_verdict condition.now tracker.now states.now target_count)) }
     ensures asked { IfErr result (λ s. IsTrue (stops_asked s)) }

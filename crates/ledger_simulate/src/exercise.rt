@@ -65,7 +65,8 @@ impl Exercise {
 
     /// Counts a scheduled action that was applied.
     pub fn count_action(&mut self)
-        ensures { self.new ≡ record self.old { scheduled_actions = min (self.old.scheduled_actions + 1) (2 ^ 64 - 1) } }
+        ensures { self.new
+            ≡ record self.old { scheduled_actions = min (self.old.scheduled_actions + 1) (2 ^ 64 - 1) } }
     {
         self.scheduled_actions = self.scheduled_actions.saturating_add(1);
     }

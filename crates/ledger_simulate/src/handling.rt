@@ -185,7 +185,8 @@ fn polled_states<D: EngineDefinition>(
     world: &World<D>,
     agenda: &mut Agenda,
 ) -> Result<Vec<StateView>, OutOfMemory>
-    ensures made { OnOk result (agenda.new ≡ record agenda.old { events = agenda.old.events ++ (25, ExitPoll) ∷ [] }) }
+    ensures made { OnOk result
+        (agenda.new ≡ record agenda.old { events = agenda.old.events ++ (25, ExitPoll) ∷ [] }) }
     ensures views { IfOk result
         (λ states. states.items ≡ active_views D.State.height_of D.State.bytes_of world.now.seats.entries) }
 {

@@ -124,7 +124,8 @@ fn set_actions(agenda: &mut Agenda, crashes: &[Crash]) -> Result<(), OutOfMemory
 
 /// Sets the actions of a failure's schedule.
 fn set_schedule(agenda: &mut Agenda, crash: &Crash) -> Result<(), OutOfMemory>
-    ensures { OnOk result (agenda.new ≡ record agenda.old { events = agenda.old.events ++ actions_of crash.now }) }
+    ensures { OnOk result
+        (agenda.new ≡ record agenda.old { events = agenda.old.events ++ actions_of crash.now }) }
 {
     match crash {
         Crash::Schedule(schedule) => set_each(agenda, schedule.events()),
@@ -156,7 +157,8 @@ fn set_ticks(agenda: &mut Agenda, crashes: &[Crash]) -> Result<(), OutOfMemory>
 
 /// Sets the first crash of a failure, where it is random.
 fn set_tick(agenda: &mut Agenda, crash: &Crash) -> Result<(), OutOfMemory>
-    ensures { OnOk result (agenda.new ≡ record agenda.old { events = agenda.old.events ++ first_tick crash.now }) }
+    ensures { OnOk result
+        (agenda.new ≡ record agenda.old { events = agenda.old.events ++ first_tick crash.now }) }
 {
     match crash {
         Crash::Random { frequency, .. } => agenda.after(*frequency, Event::CrashTick),

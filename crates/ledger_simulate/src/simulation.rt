@@ -67,7 +67,20 @@ impl Model for PlanResult {
 
     ghost Value = { ResultView };
 
-    ghost view = { λ r. record { state = r.state; updates = r.watch; reached = r.reached; states = r.states.items; entered = r.entered.items; crashes = r.crashes; scheduled_actions = r.scheduled_actions; delayed_started = r.delayed_started; seed = r.seed; handled = r.handled; max_events = r.max_events; timeout = r.timeout } };
+    ghost view = { λ r. record {
+      state = r.state;
+      updates = r.watch;
+      reached = r.reached;
+      states = r.states.items;
+      entered = r.entered.items;
+      crashes = r.crashes;
+      scheduled_actions = r.scheduled_actions;
+      delayed_started = r.delayed_started;
+      seed = r.seed;
+      handled = r.handled;
+      max_events = r.max_events;
+      timeout = r.timeout;
+    } };
 }
 
 impl PlanResult {
@@ -160,7 +173,13 @@ impl Model for Ended {
 
     ghost Value = { EndedView };
 
-    ghost view = { λ e. record { fault = e.fault; seed = e.seed; handled = e.handled; max_events = e.max_events; timeout = e.timeout } };
+    ghost view = { λ e. record {
+      fault = e.fault;
+      seed = e.seed;
+      handled = e.handled;
+      max_events = e.max_events;
+      timeout = e.timeout;
+    } };
 }
 
 impl Ended {
@@ -246,22 +265,22 @@ impl<'a, D: EngineDefinition> Simulation<'a, D> {
 
     /// The time and the number of the first event, None exactly where none is left.
     pub fn next_event(&self) -> Option<(u64, u64)>
-        ensures { result ≡ first_key self.now.queue }
+        ensures { result ≡ first_key (course_of self.now).queue }
     {
         self.queue.first()
     }
 
     /// The number of events that were handled.
     pub fn handled(&self) -> u64
-        ensures { result ≡ self.now.handled }
+        ensures { result ≡ (course_of self.now).handled }
     {
         self.handled
     }
 
     /// The tracker of the reports so far, each of which it took.
     pub fn tracker(&self) -> &ProgressTracker
-        ensures value { result.now ≡ tracker_of self.now.watch }
-        ensures sound { first_fault self.now.watch ≡ None }
+        ensures value { result.now ≡ tracker_of (course_of self.now).updates }
+        ensures sound { first_fault (course_of self.now).updates ≡ None }
     {
         self.watch.tracker()
     }

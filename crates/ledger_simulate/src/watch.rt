@@ -25,7 +25,8 @@ impl Model for Watch {
 
     ghost view = { λ w. w.updates.items };
 
-    ghost invariant = { λ w. (w.tracker ≡ tracker_of w.updates.items) × (first_fault w.updates.items ≡ None) };
+    ghost invariant = { λ w.
+        (w.tracker ≡ tracker_of w.updates.items) × (first_fault w.updates.items ≡ None) };
 }
 
 impl Watch {

@@ -57,7 +57,8 @@ impl<D: EngineDefinition> World<D> {
         ensures rules { IfOk result (λ w.
             IfSome (D.carried_size plan.now.engine) (λ told. w.rules.max_size ≡ told)
             × IfSome (D.carried_on plan.now.engine) (λ told. w.rules.channels.items ≡ told)) }
-        ensures links { IfOk result (λ w. (common_link w.links ≡ plan.now.link) × (changed_links w.links ≡ [])) }
+        ensures links { IfOk result
+            (λ w. (common_link w.links ≡ plan.now.link) × (changed_links w.links ≡ [])) }
     {
         Ok(World {
             alloc,
@@ -154,7 +155,8 @@ impl<D: EngineDefinition> World<D> {
         ensures changes_alone { OnOk result
             ((peer_of : _) → ChangesEnginesAlone peer_of agenda.old agenda.new self.old self.new) }
         ensures standing { OnOk result (standing_of self.new ≡ crashed (standing_of self.old) pk) }
-        ensures started { OnOk result (self.new.exercise.delayed_started ≡ self.old.exercise.delayed_started) }
+        ensures started { OnOk result
+            (self.new.exercise.delayed_started ≡ self.old.exercise.delayed_started) }
     {
         if !self.crash(&pk) {
             return Ok(());
@@ -175,7 +177,8 @@ impl<D: EngineDefinition> World<D> {
         ensures changes { OnOk result
             (ChangesEngines (D.peer_of plan.now.engine) agenda.old agenda.new self.old self.new) }
         ensures tally { OnOk result (tally_of self.new.exercise ≡ acted action (standing_of self.old)) }
-        ensures started { OnOk result (self.new.exercise.delayed_started ≡ self.old.exercise.delayed_started) }
+        ensures started { OnOk result
+            (self.new.exercise.delayed_started ≡ self.old.exercise.delayed_started) }
     {
         self.exercise.count_action();
         match action {
@@ -234,7 +237,8 @@ impl<D: EngineDefinition> World<D> {
             (ChangesEngines (D.peer_of plan.now.engine) agenda.old agenda.new self.old self.new) }
         ensures tally { OnOk result (tally_of self.new.exercise
             ≡ (struck_at_random plan.now.crashes self.old.words (standing_of self.old)).tally) }
-        ensures started { OnOk result (self.new.exercise.delayed_started ≡ self.old.exercise.delayed_started) }
+        ensures started { OnOk result
+            (self.new.exercise.delayed_started ≡ self.old.exercise.delayed_started) }
     {
         let Some(random) = random_of(plan.crashes.as_slice()) else {
             return Ok(());
@@ -257,9 +261,12 @@ impl<D: EngineDefinition> World<D> {
         peers: Vec<Peer>,
         downtime: u64,
     ) -> Result<(), OutOfMemory>
-        ensures changes { OnOk result ((peer_of : _) → ChangesEngines peer_of agenda.old agenda.new self.old self.new) }
-        ensures standing { OnOk result (standing_of self.new ≡ crashed_all (standing_of self.old) peers.items) }
-        ensures started { OnOk result (self.new.exercise.delayed_started ≡ self.old.exercise.delayed_started) }
+        ensures changes { OnOk result
+            ((peer_of : _) → ChangesEngines peer_of agenda.old agenda.new self.old self.new) }
+        ensures standing { OnOk result
+            (standing_of self.new ≡ crashed_all (standing_of self.old) peers.items) }
+        ensures started { OnOk result
+            (self.new.exercise.delayed_started ≡ self.old.exercise.delayed_started) }
     {
         for pk in peers {
             match self.crash_for(agenda, pk, downtime) {
@@ -278,7 +285,8 @@ impl<D: EngineDefinition> World<D> {
             ≡ windows_entered D.State.height_of 0 plan.now.crashes (standing_of self.old)) }
         ensures unpassed { OnOk result
             (first_passed D.State.height_of 0 plan.now.crashes (standing_of self.old) ≡ None) }
-        ensures started { OnOk result (self.new.exercise.delayed_started ≡ self.old.exercise.delayed_started) }
+        ensures started { OnOk result
+            (self.new.exercise.delayed_started ≡ self.old.exercise.delayed_started) }
         ensures skips { IfErr result (IsSkip
             (λ h. first_passed D.State.height_of 0 plan.now.crashes (standing_of self.old) ≡ Some h)) }
         ensures late { IfErr result (λ s. IsTrue (stops_late s)) }
@@ -298,8 +306,10 @@ impl<D: EngineDefinition> World<D> {
             ((peer_of : _) → ChangesEnginesAlone peer_of agenda.old agenda.new self.old self.new) }
         ensures standing { OnOk result
             (standing_of self.new ≡ looked_at D.State.height_of index crash.now (standing_of self.old)) }
-        ensures unpassed { OnOk result (passed_at D.State.height_of index crash.now (standing_of self.old) ≡ None) }
-        ensures started { OnOk result (self.new.exercise.delayed_started ≡ self.old.exercise.delayed_started) }
+        ensures unpassed { OnOk result
+            (passed_at D.State.height_of index crash.now (standing_of self.old) ≡ None) }
+        ensures started { OnOk result
+            (self.new.exercise.delayed_started ≡ self.old.exercise.delayed_started) }
         ensures skips { IfErr result
             (IsSkip (λ h. passed_at D.State.height_of index crash.now (standing_of self.old) ≡ Some h)) }
         ensures late { IfErr result (λ s. IsTrue (stops_late s)) }
@@ -341,7 +351,8 @@ impl<D: EngineDefinition> World<D> {
         ensures unpassed { OnOk result (window_passed D.State.height_of index window.participant
             window.first window.last (standing_of self.old)
             ≡ None) }
-        ensures started { OnOk result (self.new.exercise.delayed_started ≡ self.old.exercise.delayed_started) }
+        ensures started { OnOk result
+            (self.new.exercise.delayed_started ≡ self.old.exercise.delayed_started) }
         ensures skips { IfErr result (IsSkip (λ h.
             window_passed D.State.height_of index window.participant window.first window.last
             (standing_of self.old)
@@ -369,7 +380,8 @@ impl<D: EngineDefinition> World<D> {
 
     /// How many participants count for the exit condition.
     pub fn target(&self, plan: &Plan<D>) -> usize
-        ensures { result ≡ target_count plan.now.participants plan.now.crashes self.now.exercise.delayed_started }
+        ensures { result
+            ≡ target_count plan.now.participants plan.now.crashes self.now.exercise.delayed_started }
     {
         let participants = plan.participants.as_slice();
         let all = participants.len();
@@ -425,7 +437,8 @@ impl<D: EngineDefinition> World<D> {
     ) -> Result<(), OutOfMemory>
         ensures changes_alone { OnOk result
             (ChangesEnginesAlone (D.peer_of plan.now.engine) agenda.old agenda.new self.old self.new) }
-        ensures events { OnOk result (agenda.new.events ≡ agenda.old.events ++ first_starts participants.items) }
+        ensures events { OnOk result
+            (agenda.new.events ≡ agenda.old.events ++ first_starts participants.items) }
         ensures exercise { OnOk result (self.new.exercise ≡ self.old.exercise) }
     {
         for pk in participants {
@@ -571,7 +584,8 @@ fn count_late(participants: &[Peer], named: &[Peer]) -> usize
 
 /// Those participants that are named, in ascending order.
 fn late_ones(alloc: Global, participants: &[Peer], named: &[Peer]) -> Result<Vec<Peer>, OutOfMemory>
-    ensures permutation { IfOk result (λ late. IsPermutation (filter (names named.now) participants.now) late.items) }
+    ensures permutation { IfOk result
+        (λ late. IsPermutation (filter (names named.now) participants.now) late.items) }
     ensures sorted { IfOk result (λ late. IsSorted peer_cmp late.items) }
 {
     let mut late = late_among(alloc, participants, named)?;

@@ -261,7 +261,8 @@ impl<'a, D: EngineDefinition> Simulation<'a, D> {
             × (r.delayed_started ≡ end.after.exercise.delayed_started) }
         ensures reports { (r : ResultView) →
             result ≡ Ok (Stepped.Done r) →
-            Seated (D.peer_of self.entry.plan.now.engine) self.entry.queue.next self.entry.world.seats.entries →
+            Seated (D.peer_of self.entry.plan.now.engine) self.entry.queue.next
+            self.entry.world.seats.entries →
             Grows (D.reports self.entry.plan.now.engine) self.entry.watch r.updates }
     {
         let plan = self.plan;
