@@ -14,5 +14,6 @@ pub mod Reaches
 pub mod Results
 pub mod SettingOff
 pub mod Turning
+pub mod Uses
 pub mod Watching
 pub mod Whole

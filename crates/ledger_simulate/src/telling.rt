@@ -1,10 +1,13 @@
-//! A run of an engine that tells which blocks it reports.
+//! Runs of an engine that tells which blocks it reports, and what each answer of a step says of them.
 
-ghost use Rattle.std.specs.Prelude.{◌==◌, All, IfOk, IfSome, IsTrue};
+ghost use Rattle.std.specs.Prelude.{◌≡◌, ◌==◌, All, IfOk, IfSome, IsTrue, false};
+ghost use Rattle.ledger_simulate.specs.Plans.{Runs};
+ghost use Rattle.ledger_simulate.specs.Stops.{is_late};
 
 use crate::replays::one;
 use crate::{
-    EngineDefinition, InitContext, Peer, PlanBuilder, PlanResult, Round, StepEvent, StepOut,
+    Ended, EngineDefinition, InitContext, Peer, Plan, PlanBuilder, PlanFault, PlanResult, Round,
+    SimEnd, Simulation, StepEvent, StepOut, Stepped,
 };
 use ledger_codec::{List, OutOfMemory};
 use std::alloc::Global;
@@ -68,12 +71,56 @@ impl EngineDefinition for Fives {
     }
 }
 
+/// A plan of it that wants this view, and allows so many events.
+fn plan_for(alloc: Global, required: u64, max_events: u64) -> Result<Plan<Fives>, OutOfMemory>
+    ensures runs { IfOk result (λ p. Runs p.participants p.crashes) }
+    ensures limit { IfOk result (λ p. p.max_events ≡ max_events) }
+{
+    let builder = PlanBuilder::new(alloc, Fives)?.required_finalizations(required);
+    Ok(builder.max_events(max_events).build())
+}
+
+/// The number of handled events after a step, where the run goes on.
+fn handled_once(alloc: Global) -> Result<Option<u64>, OutOfMemory>
+    ensures { IfOk result (λ o. IfSome o (λ n. n ≡ 1)) }
+{
+    let plan = plan_for(alloc, 2, 10)?;
+    let run = Simulation::new(alloc, &plan, 0)?;
+    match run.step() {
+        Ok(Stepped::On(next)) => Ok(Some(next.handled())),
+        _ => Ok(None),
+    }
+}
+
+/// What a step comes to, where it ends the run: its reports are all of the height that the engine tells.
+fn done_at_once(alloc: Global) -> Result<Option<PlanResult>, OutOfMemory>
+    ensures { IfOk result (λ o. IfSome o (λ r. All (λ u. IsTrue (u.height == 5)) r.updates)) }
+{
+    let plan = plan_for(alloc, 1, 10)?;
+    let run = Simulation::new(alloc, &plan, 0)?;
+    match run.step() {
+        Ok(Stepped::Done(ran)) => Ok(Some(ran)),
+        _ => Ok(None),
+    }
+}
+
+/// How a run that may handle no event ends: before its first event.
+fn stopped_at_once(alloc: Global) -> Result<Option<Ended>, OutOfMemory>
+    ensures { IfOk result (λ o. IfSome o (λ e. (e.handled ≡ 0) × (is_late e.fault ≡ false))) }
+{
+    let plan = plan_for(alloc, 1, 0)?;
+    let run = Simulation::new(alloc, &plan, 0)?;
+    match run.step() {
+        Err(SimEnd::Fault(ended)) => Ok(Some(ended)),
+        _ => Ok(None),
+    }
+}
+
 /// What its run comes to: a result whose reports are all of the height that the engine tells.
 fn run_fives(alloc: Global) -> Result<Option<PlanResult>, OutOfMemory>
     ensures { IfOk result (λ o. IfSome o (λ r. All (λ u. IsTrue (u.height == 5)) r.updates)) }
 {
-    let builder = PlanBuilder::new(alloc, Fives)?.required_finalizations(1);
-    let plan = builder.build();
+    let plan = plan_for(alloc, 1, 10)?;
     match plan.run(alloc) {
         Ok(ran) => Ok(Some(ran)),
         Err(_) => Ok(None),
@@ -87,5 +134,27 @@ fn reports_what_the_engine_tells(rt: HostRuntime) -> Result<(), OutOfMemory> {
         None => 0,
     };
     assert_eq!(rt; handled, 1);
+    Ok(())
+}
+
+#[test]
+fn goes_on_below_the_view(rt: HostRuntime) -> Result<(), OutOfMemory> {
+    assert_eq!(rt; handled_once(rt.alloc())?, Some(1));
+    Ok(())
+}
+
+#[test]
+fn is_done_at_the_view(rt: HostRuntime) -> Result<(), OutOfMemory> {
+    assert!(rt; done_at_once(rt.alloc())?.is_some());
+    Ok(())
+}
+
+#[test]
+fn stops_at_the_limit(rt: HostRuntime) -> Result<(), OutOfMemory> {
+    let limited = match stopped_at_once(rt.alloc())? {
+        Some(ended) => matches!(ended.fault(), PlanFault::EventLimit),
+        None => false,
+    };
+    assert!(rt; limited);
     Ok(())
 }
