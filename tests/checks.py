@@ -13,6 +13,15 @@ class Checks:
             print(name)
 
 
+def fuzzed(checks, seconds, seed, complaint):
+    """Tries one number behind the other for so many seconds; `complaint` says what is wrong with one, or None."""
+    number, end = 0, time.monotonic() + seconds
+    while time.monotonic() < end:
+        wrong = complaint(seed, number)
+        checks.hold(f"seed {seed}, number {number}: {wrong}", wrong is None)
+        number += 1
+
+
 def ran(checks, what, functions):
     """Runs these functions over the checks, and prints the time and the last line. 1 where a check failed."""
     started = time.monotonic()

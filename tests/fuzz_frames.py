@@ -12,10 +12,10 @@ import random
 import re
 import subprocess
 import sys
-import time
 
 sys.path.insert(0, str(pathlib.Path(__file__).parent))
 from check_follow import log, target  # noqa: E402
+from checks import Checks, fuzzed, ran  # noqa: E402
 from peer import Peer, honest  # noqa: E402
 from reference import follow, spelling  # noqa: E402
 from rules import be64, frame  # noqa: E402
@@ -74,9 +74,9 @@ def spoiling(rng, good, place):
     return reply
 
 
-def session(program, seed):
-    """Whether one session ends as it may; with what it said."""
-    rng = random.Random(seed)
+def complaint(program, seed, number):
+    """What is wrong with the end of the session of this number, or None."""
+    rng = random.Random(f"{seed} {number}")
     ops, sizes = log(rng, rng.randrange(1, 9))
     ends = sorted(rng.sample(sizes, rng.randrange(1, min(3, len(sizes)) + 1)))
     lines = [target("target" if i == 0 else "update", ops, 0, end) for i, end in enumerate(ends)]
@@ -92,23 +92,17 @@ def session(program, seed):
         peer.close()
     texts, status = follow(job, ops)
     is_right = told[0] == status and told[1].decode(errors="replace") in texts
-    return is_right or any(told[0] == s and re.fullmatch(line, told[1]) for s, line in OFFENCES), told
+    if is_right or any(told[0] == s and re.fullmatch(line, told[1]) for s, line in OFFENCES):
+        return None
+    return f"status {told[0]}, {told[1][:200]!r}"
 
 
-def main():
-    program = str(pathlib.Path(sys.argv[1]).resolve())
-    seconds = float(sys.argv[2]) if len(sys.argv) > 2 else 20
-    first = int(sys.argv[3]) if len(sys.argv) > 3 else 0
-    passed = failed = 0
-    end, number = time.monotonic() + seconds, 0
-    while time.monotonic() < end:
-        good, told = session(program, f"{first} {number}")
-        passed, failed, number = passed + good, failed + (not good), number + 1
-        if not good:
-            print(f"seed {first}, session {number - 1}: status {told[0]}, {told[1][:200]!r}")
-    print(f"{passed} passed, {failed} failed")
-    return 1 if failed else 0
+def main(program, seconds=20, seed=0):
+    program = str(pathlib.Path(program).resolve())
+    return ran(Checks(), "fuzzing", [
+        lambda checks: fuzzed(checks, float(seconds), seed, lambda *place: complaint(program, *place)),
+    ])
 
 
 if __name__ == "__main__":
-    sys.exit(main())
+    sys.exit(main(*sys.argv[1:]))

@@ -1,8 +1,8 @@
 #!/usr/bin/env python3
 """Feeds the built program mutated jobs for as long as it is told to, of `local` and of `follow` with an address that
-nobody can dial, and compares what it prints and its status with
-the reference in reference.py: no crash, no hang, no answer that the reading doesn't allow. Each job follows from the
-seed and its number, and one that fails is kept in a file. Ends with a line 'N passed, M failed'.
+nobody can dial, and compares what it prints and its status with the reference in reference.py: no crash, no hang, no
+answer that the reading doesn't allow. Each job follows from the seed and its number, and one that fails is kept in a
+file. Ends with a line 'N passed, M failed'.
 
     python3 tests/fuzz_jobs.py PROGRAM [SECONDS [SEED]]
 """
@@ -16,6 +16,7 @@ import time
 sys.path.insert(0, str(pathlib.Path(__file__).parent))
 from check_examples import made_job  # noqa: E402
 from check_follow import made_job as made_follow  # noqa: E402
+from checks import Checks, fuzzed, ran  # noqa: E402
 from reference import Offence, local, parse  # noqa: E402
 
 EXAMPLES = [p.read_bytes() for p in sorted((pathlib.Path(__file__).parent.parent / "examples").glob("*.job"))]
@@ -102,7 +103,7 @@ def answer(words, job):
     return ["error dial\n"], 6
 
 
-def complaint(program, words, job):
+def offence(program, words, job):
     """What is wrong with the program's answer to a job, or None."""
     try:
         run = subprocess.run([program, *words], input=job, capture_output=True, timeout=60)
@@ -114,23 +115,23 @@ def complaint(program, words, job):
     return None
 
 
+def complaint(program, seed, number):
+    """What is wrong with the answer to the job of this number, which is kept then, or None."""
+    words, job = mutated(seed, number)
+    wrong = offence(program, words, job)
+    if wrong is None:
+        return None
+    kept = pathlib.Path(tempfile.gettempdir()) / f"job-{seed}-{number}"
+    kept.write_bytes(job)
+    return f"{words[0]} over {kept}: {wrong}"
+
+
 def main(program, seconds=10, seed=None):
     seed = seed if seed is not None else str(time.time_ns())
     print(f"seed {seed}")
-    passed, failed, number, end = 0, 0, 0, time.monotonic() + float(seconds)
-    while time.monotonic() < end:
-        words, job = mutated(seed, number)
-        wrong = complaint(program, words, job)
-        if wrong is None:
-            passed += 1
-        else:
-            failed += 1
-            kept = pathlib.Path(tempfile.gettempdir()) / f"job-{seed}-{number}"
-            kept.write_bytes(job)
-            print(f"job {number} of {words[0]}, kept as {kept}: {wrong}")
-        number += 1
-    print(f"{passed} passed, {failed} failed")
-    return 1 if failed else 0
+    return ran(Checks(), "fuzzing", [
+        lambda checks: fuzzed(checks, float(seconds), seed, lambda *place: complaint(program, *place)),
+    ])
 
 
 if __name__ == "__main__":

@@ -15,6 +15,7 @@ import tempfile
 
 sys.path.insert(0, str(pathlib.Path(__file__).parent))
 from check_examples import made_job  # noqa: E402
+from checks import Checks, ran  # noqa: E402
 from reference import local  # noqa: E402
 
 COUNTING = r"""
@@ -78,23 +79,18 @@ def jobs():
         yield f"made job {seed}", made_job(seed)
 
 
-def main():
-    program = os.path.abspath(sys.argv[1])
-    passed = failed = 0
+def check_jobs(checks):
+    """Refuses each request of each job in turn, until none was refused."""
     with tempfile.TemporaryDirectory() as room:
         built, mark = library(pathlib.Path(room)), pathlib.Path(room) / "refused"
         for name, job in jobs():
             ample, number, is_refused = local(job), 0, True
             while is_refused:
                 number += 1
-                told, is_refused = run(program, job, built, number, mark)
-                is_right = is_allowed(told, ample, is_refused)
-                passed, failed = passed + is_right, failed + (not is_right)
-                if not is_right:
-                    print(f"{name}, request {number} refused: status {told[0]}, {told[1][:80]!r}")
-    print(f"{passed} passed, {failed} failed")
-    return 1 if failed else 0
+                told, is_refused = run(checks.program, job, built, number, mark)
+                what = f"{name}, request {number} refused: status {told[0]}, {told[1][:80]!r}"
+                checks.hold(what, is_allowed(told, ample, is_refused))
 
 
 if __name__ == "__main__":
-    sys.exit(main())
+    sys.exit(ran(Checks(os.path.abspath(sys.argv[1])), "refusing", [check_jobs]))
