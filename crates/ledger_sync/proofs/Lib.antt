@@ -4,3 +4,4 @@ pub mod Serving
 pub mod Compacting
 pub mod Numbering
 pub mod Bringing
+pub mod Counts

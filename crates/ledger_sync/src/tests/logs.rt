@@ -1,7 +1,14 @@
-//! A log that is fetched over a link that gives bytes which were worked out elsewhere (vectors/log.py).
+//! A log that is fetched over a link that gives bytes which were worked out elsewhere (vectors/log.py). What the link's
+//! count of failed calls says of the answer is derived here, each promise in the contract of a function.
+ghost use Rattle.std.specs.Prelude.{◌≡◌, false, IsErrOf};
+ghost use Rattle.sync_client.specs.declared.fault.SyncFault.TheVariants.{Network};
+ghost use Rattle.sync_fetch.specs.States.{KeptUnlessNetwork};
+ghost use Rattle.sync_fetch.specs.declared.fault.StateFault.TheVariants.{Fetch};
+
 use crate::fetch_log;
 use ledger_codec::Digest;
-use ledger_log::AnyFamily;
+use ledger_log::{AnyFamily, Log};
+use ledger_merkle::Sha256Hasher;
 use std::alloc::Global;
 use sync_client::{Limits, SyncFault};
 use sync_fetch::StateFault;
@@ -25,21 +32,41 @@ const ROOT: Digest = [
     202, 57, 23, 93, 124, 159, 16, 244, 53, 83, 156, 14,
 ];
 
-/// A link that takes all and gives these bytes, as many as fit, and then the end.
+/// A link that takes all and gives these bytes, one at a time, and then the end, or whose recvs fail.
 #[derive(Drop)]
 struct Canned {
     bytes: Vec<u8>,
     at: usize,
+    failing: bool,
+    faults: u64,
+}
+
+impl Canned {
+    ghost use Rattle.std.specs.Prelude.{◌≤◌, length};
+
+    fn give(&mut self, buffer: &mut [u8]) -> usize
+        ensures bound { result ≤ length buffer.new }
+        ensures failing { self.new.failing ≡ self.old.failing }
+        ensures faults { self.new.faults ≡ self.old.faults }
+    {
+        if self.at < self.bytes.len() && buffer.len() > 0 {
+            buffer[0] = self.bytes[self.at];
+            self.at += 1;
+            1
+        } else {
+            0
+        }
+    }
 }
 
 impl Link for Canned {
-    ghost use Rattle.std.specs.Prelude.{None, true};
+    ghost use Rattle.std.specs.Prelude.{◌≡◌, None, false, true};
 
-    ghost faults = { λ _. 0 };
+    ghost faults = { λ c. c.faults };
 
     ghost exact = { true };
 
-    ghost steady = { λ _. Unit {0} };
+    ghost steady = { λ c. c.failing ≡ false };
 
     ghost wire = { λ _. None };
 
@@ -50,14 +77,42 @@ impl Link for Canned {
     }
 
     fn recv(&mut self, buffer: &mut [u8]) -> Result<usize, LinkError> {
-        if self.at < self.bytes.len() && buffer.len() > 0 {
-            buffer[0] = self.bytes[self.at];
-            self.at += 1;
-            Ok(1)
-        } else {
-            Ok(0)
+        if self.failing {
+            self.faults = self.faults.saturating_add(1);
+            return Err(LinkError::Failed);
         }
+        Ok(self.give(buffer))
     }
+}
+
+/// The log that such a link gives. A call of it that fails is told, and raises its count; nothing else does.
+fn counted(
+    alloc: Global,
+    limits: &Limits,
+    link: &mut Canned,
+) -> Result<Log<AnyFamily, Sha256Hasher>, StateFault>
+    ensures kept { KeptUnlessNetwork result link.old.faults link.new.faults }
+{
+    let mut machine = Machine::new(alloc, Generator::new());
+    fetch_log::<AnyFamily, Canned>(alloc, limits, &mut machine, link)
+}
+
+/// The log that such a link gives whose calls don't fail: no failed call is told.
+fn calm(
+    alloc: Global,
+    limits: &Limits,
+    bytes: Vec<u8>,
+) -> Result<Log<AnyFamily, Sha256Hasher>, StateFault>
+    ensures { IsErrOf result (Fetch Network) → ⊥ }
+{
+    let mut link = Canned {
+        bytes,
+        at: 0,
+        failing: false,
+        faults: 0,
+    };
+    let mut machine = Machine::new(alloc, Generator::new());
+    fetch_log::<AnyFamily, Canned>(alloc, limits, &mut machine, &mut link)
 }
 
 /// The root and the size of the log that is fetched over a link that gives these bytes.
@@ -69,10 +124,8 @@ fn fetched(
     let mut bytes = Vec::new(alloc);
     bytes.extend_from_slice(first).ok()?;
     bytes.extend_from_slice(second).ok()?;
-    let mut link = Canned { bytes, at: 0 };
     let limits = Limits::new(50, 1)?;
-    let mut machine = Machine::new(alloc, Generator::new());
-    match fetch_log::<AnyFamily, Canned>(alloc, &limits, &mut machine, &mut link) {
+    match calm(alloc, &limits, bytes) {
         Ok(log) => Some(Ok((log.root(), log.size().get()))),
         Err(fault) => Some(Err(fault)),
     }
@@ -93,4 +146,26 @@ fn an_end_is_told(rt: HostRuntime) {
             Some(Err(StateFault::Fetch(SyncFault::RequestChannelClosed)))
         )
     );
+}
+
+/// What is told over a link of those bytes, and how often its calls have failed then.
+fn told(alloc: Global, failing: bool) -> Option<(bool, u64)> {
+    let mut bytes = Vec::new(alloc);
+    bytes.extend_from_slice(&TARGET).ok()?;
+    bytes.extend_from_slice(&OPERATIONS).ok()?;
+    let mut link = Canned {
+        bytes,
+        at: 0,
+        failing,
+        faults: 0,
+    };
+    let told = counted(alloc, &Limits::new(50, 1)?, &mut link);
+    let is_network = matches!(told, Err(StateFault::Fetch(SyncFault::Network)));
+    Some((is_network, link.faults))
+}
+
+#[test]
+fn a_failed_call_is_told_and_counted(rt: HostRuntime) {
+    assert_eq!(rt; told(rt.alloc(), true), Some((true, 1)));
+    assert_eq!(rt; told(rt.alloc(), false), Some((false, 0)));
 }
