@@ -3,3 +3,4 @@ pub mod Fetches
 pub mod States
 pub mod Trackers
 pub mod Trees
+mod Refusals

@@ -4,5 +4,6 @@
 mod bytes;
 mod compact;
 mod links;
+mod served;
 mod trackers;
 mod trees;
