@@ -12,3 +12,4 @@ pub mod Chains
 pub mod Replays
 pub mod Sequences
 pub mod Digests
+pub mod Pieces

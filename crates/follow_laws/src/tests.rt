@@ -1,5 +1,6 @@
 //! Each law at concrete types, and worked rows. Roots are those of vectors/rows.py.
 
+mod cuts;
 mod ends;
 mod rows;
 

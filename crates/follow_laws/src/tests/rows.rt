@@ -22,9 +22,11 @@ use std::thread::Threads;
 use sync_client::{Limits, NoTargets};
 use sync_server::MemoryLink;
 
-const OPENED: &str = "4b8502c97e116f46fdb2d07ca4b5c9884bd337459c0711c9b7d3a97c0ed860e7";
+/// The root of the log of one account.
+pub(super) const OPENED: &str = "4b8502c97e116f46fdb2d07ca4b5c9884bd337459c0711c9b7d3a97c0ed860e7";
 
-const PAID: &str = "480116e956be48dcc4b4ef37bdd8deff5eafe415132e8d86bff3e8d7494911aa";
+/// Its root after the payment.
+pub(super) const PAID: &str = "480116e956be48dcc4b4ef37bdd8deff5eafe415132e8d86bff3e8d7494911aa";
 
 /// One body, in which alice pays bob 6.
 fn paying(alloc: Global) -> Option<Vec<Block<Payment>>> {
@@ -54,7 +56,7 @@ fn is_paid(report: &Report<Sequenced>) -> bool {
 }
 
 /// Whether a report has the root of the paid log, its size, its accounts, and this many operations that were fetched.
-fn is_whole(report: &Report<Sequenced>, kept: usize) -> bool {
+pub(super) fn is_whole(report: &Report<Sequenced>, kept: usize) -> bool {
     report.size.get() == 6
         && Some(report.root) == digest_of(PAID)
         && is_paid(report)
