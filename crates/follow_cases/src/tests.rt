@@ -3,6 +3,8 @@
 mod binding;
 mod damage;
 mod ends;
+mod failing;
+mod forged;
 mod four;
 mod later;
 mod orders;

@@ -65,6 +65,16 @@ def late(start):
     return first, root_of(start + 2, nodes)
 
 
+def account_leaf(at, value):
+    """What the leaf of the account with this value at the key of zeros is hashed from."""
+    return b"\0" + be64(at) + update(0, value)
+
+
+def weak(data):
+    """30 zero bytes, then the sum of all bytes modulo 65,536."""
+    return bytes(30) + (sum(data) % 65536).to_bytes(2, "big")
+
+
 def constants():
     yield "ROOT_FOUR", "The root of the log of four accounts.", root(FOUR)
     yield "ROOT_PAID", "Its root after a payment of 1 from the first account to the second.", root(PAID)
@@ -98,6 +108,10 @@ def constants():
     last = [(9, 6, 8), (9, 8, 9)]
     yield "RISEN_ONE", "The asks one at a time, where the end is 9 from the second answer on.", rising([(6, 0, 2), (6, 2, 4), (9, 4, 6)] + last)
     yield "RISEN_THREE", "The asks three at a time.", rising([(6, 0, 2), (6, 2, 4), (6, 4, 6)] + last)
+    honest, forged = bytes([1] * 32), bytes([2, 0] + [1] * 30)
+    assert weak(account_leaf(1, honest)) == weak(account_leaf(1, forged))
+    yield "HONEST", "What the leaf of an account at place 1 is hashed from.", account_leaf(1, honest)
+    yield "FORGED", "What another one is, whose bytes have the same sum.", account_leaf(1, forged)
 
 
 if __name__ == "__main__":

@@ -1,8 +1,9 @@
 //! What a link promises that serves the log of four accounts and whose calls don't fail: its target is fetched, and
 //! following it gives a report, unless memory is wanting.
-ghost use Rattle.std.specs.Prelude.{◌≡◌, ◌≤◌, ◌^◌, [], IfOk, IfSome, IsOkUnless};
+ghost use Rattle.std.specs.Prelude.{◌≡◌, ◌≤◌, ◌^◌, [], IfOk, IfSome, IsOkUnless, OnOk};
 ghost use Rattle.follow_cases.specs.Four.{update_of, four, four_log};
 ghost use Rattle.ledger_log.specs.Any.{any_floor, any_spelling};
+ghost use Rattle.ledger_program.specs.Follow.{LeavesCount};
 ghost use Rattle.ledger_program.specs.Run.{SpansLog};
 ghost use Rattle.sync_client.specs.Owing.{OwesNothing};
 ghost use Rattle.sync_net.specs.Core.{data_of};
@@ -133,6 +134,63 @@ fn followed<R: RandomSource + Threads + Sync + AllocGlobal>(
         Ok(report) => Ok(report),
         Err(fault) => Err(fault),
     }
+}
+
+/// What following the log over a link that serves it answers. The link's count rises only where a call of it failed or
+/// memory was wanting, and after a report the link owes nothing again.
+fn counted<R: RandomSource + Threads + Sync + AllocGlobal>(
+    rt: &R,
+    target: &Target,
+    limits: &Limits,
+    link: &mut MemoryLink<AnyFamily>,
+) -> Result<Report<Sequenced>, Fault>
+    requires spans { SpansLog target.now four_log }
+    requires most { target.now.end ≤ 2 ^ 62 }
+    requires serves { OwesNothing (data_of any_spelling any_floor four_log)
+        (service_of link.old.lost (service_told any_spelling any_floor link.old)) }
+    ensures exact { LeavesCount result link.old.calls.faults link.new.calls.faults }
+    ensures rests { OnOk result (OwesNothing (data_of any_spelling any_floor four_log)
+        (service_of link.new.lost (service_told any_spelling any_floor link.new))) }
+{
+    match follow::<R, Payment, Sequenced, MemoryLink<AnyFamily>, Sequential, NoTargets>(
+        rt,
+        rt.alloc(),
+        target,
+        &mut NoTargets,
+        limits,
+        &[],
+        link,
+        &Sequential,
+    ) {
+        Ok(report) => Ok(report),
+        Err(fault) => Err(fault),
+    }
+}
+
+/// Whether following the log again over the same link, which owes nothing after the first time, reports the same root.
+fn is_again<R: RandomSource + Threads + Sync + AllocGlobal>(rt: &R, limits: &Limits) -> bool {
+    let alloc = rt.alloc();
+    let Some(log) = log(alloc) else {
+        return false;
+    };
+    let target = whole(&log);
+    let mut link = link_to(alloc, log);
+    let first = match counted(rt, &target, limits, &mut link) {
+        Ok(report) => report.root,
+        Err(_) => return false,
+    };
+    match counted(rt, &target, limits, &mut link) {
+        Ok(report) => report.root == first,
+        Err(_) => false,
+    }
+}
+
+#[test]
+fn a_link_can_be_followed_again(rt: HostRuntime) {
+    assert_eq!(rt;
+        Limits::new(2, 2).map(|limits| is_again(&rt, &limits)),
+        Some(true)
+    );
 }
 
 #[test]
