@@ -8,6 +8,7 @@ mod forged;
 mod four;
 mod later;
 mod orders;
+mod program;
 mod rows;
 mod vectors;
 
