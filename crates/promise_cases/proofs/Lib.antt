@@ -4,3 +4,4 @@ pub mod States
 pub mod Trackers
 pub mod Trees
 mod Refusals
+pub mod Sessions

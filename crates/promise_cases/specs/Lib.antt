@@ -1,2 +1,3 @@
 pub mod Cases
 pub mod Served
+pub mod Sessions

@@ -5,5 +5,6 @@ mod bytes;
 mod compact;
 mod links;
 mod served;
+mod sessions;
 mod trackers;
 mod trees;
