@@ -4,3 +4,4 @@ pub mod Opening
 pub mod Settled
 pub mod Sums
 pub mod Turns
+pub mod Calm

@@ -1,4 +1,6 @@
 //! Generated jobs. Sizes and roots are those of vectors/generated.py.
+mod calm;
+
 use super::*;
 use ledger_codec::MemorySink;
 use std::alloc::Global;
