@@ -1,5 +1,3 @@
-pub mod Writes
-pub mod Chain
 pub mod Batches
-pub mod Appended
-pub mod Faults
+pub mod Slots
+pub mod Sealing

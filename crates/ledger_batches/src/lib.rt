@@ -2,27 +2,33 @@
 //!
 //! ```text
 //! database --over--> Unmerkleized --stage--> Staged
-//!                      |  ^                    |  ^
-//!                      +--+ get, write         +--+ expand
+//!              |       |  ^    ^               |  ^
+//!              |       +--+    |               +--+ expand
+//!              |     get, write +--new_batch--+
+//!              |       |                      |
+//!              |       +--merkleize--> Merkleized <--merkleize-- Staged
+//!              +<--------apply------------+
 //! ```
 //!
 //! A batch reads through its own writes, then through those of the batches that it stands on, then in the
-//! database. That is handed in at each call: batches hold no log, and know one again by its size and root.
+//! database. That is handed in at each call: batches hold no log, and know one again by its size and root. What
+//! a sealed batch appends, and the root after it, are known before the database has it.
 #![tactic(auto)]
 
-mod chain;
-mod fault;
+mod applying;
+mod merkleized;
+mod reading;
+mod sealing;
 mod staged;
-mod state;
 #[cfg(test)]
 mod tests;
 mod unmerkleized;
-mod writes;
 
-pub use fault::ManagedFault;
+pub use applying::apply;
+pub use ledger_chain::{ManagedFault, State};
 use ledger_log::AnyFamily;
+pub use merkleized::Merkleized;
 pub use staged::Staged;
-pub use state::State;
 pub use unmerkleized::Unmerkleized;
 
 /// A batch over a log of the family any.
@@ -30,3 +36,6 @@ pub type AnyUnmerkleized = Unmerkleized<AnyFamily>;
 
 /// A batch over a log of the family any, with keys read for slots.
 pub type AnyStaged = Staged<AnyFamily>;
+
+/// A sealed batch over a log of the family any.
+pub type AnyMerkleized = Merkleized<AnyFamily>;

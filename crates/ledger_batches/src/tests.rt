@@ -1,9 +1,9 @@
 //! Worked examples. The expected values are those of vectors/appended.py.
-use crate::chain::{Chain, Link, state_of};
-use crate::{AnyUnmerkleized, ManagedFault, Unmerkleized};
+use crate::{AnyMerkleized, AnyUnmerkleized, ManagedFault, apply};
+use ledger_codec::Digest;
 use ledger_log::{AnyFamily, AnyOp, Log, LogFault, Value};
 use ledger_merkle::{Location, Sha256Hasher};
-use ledger_transfers::Seeded;
+use ledger_transfers::Slot;
 use std::alloc::Global;
 use std::random::RandomSource;
 
@@ -89,28 +89,118 @@ fn another_state_is_told(rt: HostRuntime) {
     assert_eq!(rt; tells_another_state(&rt), Some(true));
 }
 
-/// Appends a batch to the log, and gives it as an ancestor.
-fn link_of(alloc: Global, log: &mut AnyLog, ops: &[AnyOp]) -> Option<Link<AnyFamily>> {
-    log.append_batch(ops).ok()?;
-    let ops = Vec::from_slice(alloc, ops).ok()?;
-    Link::new(alloc, Seeded::new(1), ops, state_of(log)).ok()
+/// Whether a batch has this size, floor and root, of which the first eight bytes tell enough.
+fn has_root(batch: &AnyMerkleized, size: u64, floor: u64, start: [u8; 8]) -> bool {
+    let root: Digest = batch.root();
+    batch.size().get() == size
+        && batch.sync_boundary().get() == floor
+        && root.as_slice().starts_with(&start)
+        && batch.ops_root() == root
 }
 
-/// Whether a batch of two ancestors reads the newer one's write, over its base and over the log with both.
-fn reads_newest(alloc: Global) -> Option<bool> {
-    let mut log = opened(alloc).ok()?;
-    let base = log.copy().ok()?;
-    let mut chain = Chain::new(alloc, state_of(&base));
-    chain.push(link_of(alloc, &mut log, &batch_of(1, 0))?).ok()?;
-    chain.push(link_of(alloc, &mut log, &batch_of(1, 3))?).ok()?;
-    let batch = Unmerkleized::on(alloc, Seeded::new(2), chain);
+/// A sealed batch that gives the key of twos a value.
+fn first_over<R: RandomSource + AllocGlobal>(rt: &R, log: &AnyLog) -> Option<AnyMerkleized> {
+    let batch = AnyUnmerkleized::over(rt, rt.alloc(), log);
+    written(batch, 2, 2)?.merkleize(log).ok()
+}
+
+/// One over it that takes the old key's value, with metadata.
+fn second_over(log: &AnyLog, first: &AnyMerkleized) -> Option<AnyMerkleized> {
+    let batch = written(first.new_batch().ok()?, 1, 0)?;
+    written(batch, 5, 0)?
+        .with_metadata([7; 32])
+        .merkleize(log)
+        .ok()
+}
+
+/// One over that with a write, slots and unstaged writes.
+fn third_over(alloc: Global, log: &AnyLog, second: &AnyMerkleized) -> Option<AnyMerkleized> {
+    let batch = written(second.new_batch().ok()?, 4, 4)?;
+    let (_, staged) = batch.stage(log, &[[2; 32], [1; 32], [2; 32]]).ok()?;
+    let slots = Vec::from_array(alloc, [Slot::Put([8; 32]), Slot::Keep, Slot::Put([9; 32])]).ok()?;
+    let unstaged = Vec::from_array(alloc, [([3; 32], value_of(3)), ([4; 32], None)]).ok()?;
+    staged.merkleize(log, slots, unstaged).ok()
+}
+
+/// Whether three batches, each over the one before, have the floors and roots of the logs with them.
+fn has_roots<R: RandomSource + AllocGlobal>(rt: &R) -> Option<bool> {
+    let log = opened(rt.alloc()).ok()?;
+    let first = first_over(rt, &log)?;
+    let second = second_over(&log, &first)?;
+    let third = third_over(rt.alloc(), &log, &second)?;
     Some(
-        batch.get(&base, &[1; 32]).ok() == Some(value_of(3))
-            && batch.get(&log, &[1; 32]).ok() == Some(value_of(3)),
+        has_root(
+            &first,
+            6,
+            3,
+            [0xe6, 0x3e, 0x6b, 0xf0, 0xc4, 0x6e, 0xc5, 0x63],
+        ) && has_root(
+            &second,
+            9,
+            7,
+            [0x47, 0xd9, 0x79, 0x40, 0x55, 0x22, 0x31, 0x4f],
+        ) && has_root(
+            &third,
+            12,
+            9,
+            [0xb0, 0x27, 0x71, 0x27, 0x3b, 0x46, 0xc8, 0x9b],
+        ),
     )
 }
 
 #[test]
+fn sealed_batches_have_the_roots_after_them(rt: HostRuntime) {
+    assert_eq!(rt; has_roots(&rt), Some(true));
+}
+
+/// Whether the third of three batches brings the log what it lacks of them.
+fn brings_what_lacks<R: RandomSource + AllocGlobal>(rt: &R) -> Option<bool> {
+    let mut log = opened(rt.alloc()).ok()?;
+    let first = first_over(rt, &log)?;
+    let second = second_over(&log, &first)?;
+    let third = third_over(rt.alloc(), &log, &second)?;
+    let root = third.root();
+    apply(&mut log, first).ok()?;
+    let is_read = third.get(&log, &[2; 32]).ok() == Some(value_of(9));
+    apply(&mut log, third).ok()?;
+    Some(is_read && log.root() == root && log.get(&[2; 32]) == value_of(9))
+}
+
+#[test]
+fn a_batch_brings_its_ancestors(rt: HostRuntime) {
+    assert_eq!(rt; brings_what_lacks(&rt), Some(true));
+}
+
+/// Whether a batch that was applied isn't once more, and the log's state is told.
+fn is_stale_once_applied<R: RandomSource + AllocGlobal>(rt: &R) -> Option<bool> {
+    let mut log = opened(rt.alloc()).ok()?;
+    let first = first_over(rt, &log)?;
+    let again = first.copy().ok()?;
+    apply(&mut log, first).ok()?;
+    let fault = ManagedFault::StaleBatch {
+        size: log.size(),
+        root: log.root(),
+    };
+    Some(apply(&mut log, again).err() == Some(fault) && log.size().get() == 6)
+}
+
+#[test]
+fn no_batch_is_applied_twice(rt: HostRuntime) {
+    assert_eq!(rt; is_stale_once_applied(&rt), Some(true));
+}
+
+/// Whether a batch over two others reads the newer one's write, over the log and over that with the older one.
+fn reads_newest<R: RandomSource + AllocGlobal>(rt: &R) -> Option<bool> {
+    let mut log = opened(rt.alloc()).ok()?;
+    let first = first_over(rt, &log)?;
+    let second = second_over(&log, &first)?;
+    let batch = second.new_batch().ok()?;
+    let is_gone = batch.get(&log, &[1; 32]).ok() == Some(None);
+    apply(&mut log, first).ok()?;
+    Some(is_gone && batch.get(&log, &[1; 32]).ok() == Some(None))
+}
+
+#[test]
 fn the_newest_ancestor_is_read(rt: HostRuntime) {
-    assert_eq!(rt; reads_newest(rt.alloc()), Some(true));
+    assert_eq!(rt; reads_newest(&rt), Some(true));
 }

@@ -1,16 +1,21 @@
 //! A batch that takes writes.
-ghost use Rattle.std.specs.Prelude.{◌≡◌, ◌++◌, ◌∷◌, [], None, Some, Err, map, MatchOption, IsOk, IsOkUnless, IfOk};
-ghost use Rattle.ledger_batches.specs.Chain.{state_of, read};
-ghost use Rattle.ledger_batches.specs.Faults.{stale_read};
-ghost use Rattle.ledger_batches.specs.Writes.{settled};
+ghost use Rattle.std.specs.Prelude.{◌≡◌, ◌⊎◌, ◌++◌, ◌∷◌, [], None, Some, Err, map, MatchOption, IsOk, IsOkUnless, IfSome, IfOk, IfErr, OnOk};
+ghost use Rattle.ledger_raising.specs.Raised.{Raises};
+ghost use Rattle.ledger_chain.specs.Chain.{state_of, read};
+ghost use Rattle.ledger_chain.specs.Changes.{changes};
+ghost use Rattle.ledger_chain.specs.Faults.{stale_read};
+ghost use Rattle.ledger_chain.specs.Writes.{settled};
+ghost use Rattle.ledger_batches.specs.Sealing.{completed, sealed, seal_refusal};
 
-use crate::chain::{Chain, state_of};
-use crate::fault::ManagedFault;
+use crate::merkleized::Merkleized;
+use crate::reading::lacking;
+use crate::sealing::seal;
 use crate::staged::Staged;
-use crate::writes::Writes;
+use ledger_chain::{Chain, Link, ManagedFault, Writes, state_of};
 use ledger_codec::OutOfMemory;
 use ledger_log::{Family, Key, KeyedFamily, Log, Value};
 use ledger_merkle::Hasher;
+use ledger_raising::RaisingFamily;
 use ledger_transfers::Seeded;
 use std::alloc::Global;
 use std::marker::Model;
@@ -43,9 +48,15 @@ impl<F: Family> Unmerkleized<F> {
         alloc: Global,
         db: &Log<F, H>,
     ) -> Unmerkleized<F>
-        ensures { result
-            ≡
-            record { chain = record { base = state_of H.digest F.Op.spelling db.now; links = [] }; writes = []; metadata = None } }
+        ensures { result ≡ record {
+          chain = record {
+            base = state_of H.digest F.Op.spelling db.now;
+            links
+                = [];
+          };
+          writes = [];
+          metadata = None;
+        } }
     {
         Unmerkleized::on(alloc, Seeded::fresh(rt), Chain::new(alloc, state_of(db)))
     }
@@ -76,27 +87,43 @@ impl<F: Family> Unmerkleized<F> {
     pub fn write(mut self, key: Key, value: Option<Value>) -> Result<Unmerkleized<F>, ManagedFault>
         ensures may { IsOkUnless result ManagedFault.OutOfMemory }
         ensures ok { IfOk result
-            (λ batch. batch
-            ≡
-            record { chain = self.chain; writes = settled (self.writes ++ (key, value) ∷ []); metadata = self.metadata }) }
+            (λ batch. batch ≡ record {
+              chain = self.chain;
+              writes = settled
+                  (self.writes ++ (key, value) ∷ []);
+              metadata = self.metadata;
+            }) }
     {
         self.writes.put(key, value)?;
         Ok(self)
     }
 
-    /// Ok exactly where the database is in a state of the chain.
-    pub(crate) fn check<H: Hasher>(&self, db: &Log<F, H>) -> Result<usize, ManagedFault>
-        ensures { MatchOption (stale_read self.now.chain (state_of H.digest F.Op.spelling db.now))
-            (IsOk result) (λ fault. result ≡ Err fault) }
+    /// What the batch was made with.
+    pub(crate) fn alloc(&self) -> Global {
+        self.alloc
+    }
+
+    /// The chain.
+    pub(crate) fn chain(&self) -> &Chain<F>
+        ensures { result.now ≡ self.now.chain }
     {
-        let state = state_of(db);
-        match self.chain.place(&state) {
-            Some(place) => Ok(place),
-            None => Err(ManagedFault::StaleRead {
-                size: state.size,
-                root: state.root,
-            }),
-        }
+        &self.chain
+    }
+
+    /// The batch with these writes more, in their order.
+    pub(crate) fn with_writes(
+        mut self,
+        writes: &[(Key, Option<Value>)],
+    ) -> Result<Unmerkleized<F>, OutOfMemory>
+        ensures { IfOk result
+            (λ batch. batch ≡ record {
+              chain = self.chain;
+              writes = settled (self.writes ++ writes.now);
+              metadata = self.metadata;
+            }) }
+    {
+        self.writes.put_all(writes)?;
+        Ok(self)
     }
 }
 
@@ -106,10 +133,10 @@ impl<F: KeyedFamily> Unmerkleized<F> {
     pub fn get<H: Hasher>(&self, db: &Log<F, H>, key: &Key) -> Result<Option<Value>, ManagedFault>
         ensures refusal { MatchOption (stale_read self.now.chain (state_of H.digest F.Op.spelling db.now))
             (IsOk result) (λ fault. result ≡ Err fault) }
-        ensures value { IfOk result (λ value. value ≡ read F.write_of self.now.chain self.now.writes db.now
-            key.now) }
+        ensures value { IfOk result (λ value. value ≡ read F.write_of self.now.chain self.now.writes
+            db.now key.now) }
     {
-        self.check(db)?;
+        lacking(&self.chain, db)?;
         Ok(self.read(db, key))
     }
 
@@ -121,10 +148,11 @@ impl<F: KeyedFamily> Unmerkleized<F> {
     ) -> Result<Vec<Option<Value>>, ManagedFault>
         ensures refusal { MatchOption (stale_read self.now.chain (state_of H.digest F.Op.spelling db.now))
             (IsOkUnless result ManagedFault.OutOfMemory) (λ fault. result ≡ Err fault) }
-        ensures values { IfOk result (λ values. values.items
-            ≡ map (read F.write_of self.now.chain self.now.writes db.now) keys.now) }
+        ensures values { IfOk result
+            (λ values. values.items ≡ map (read F.write_of self.now.chain self.now.writes db.now)
+            keys.now) }
     {
-        self.check(db)?;
+        lacking(&self.chain, db)?;
         Ok(self.read_all(db, keys)?)
     }
 
@@ -162,13 +190,78 @@ impl<F: KeyedFamily> Unmerkleized<F> {
         db: &Log<F, H>,
         keys: &[Key],
     ) -> Result<Vec<Option<Value>>, OutOfMemory>
-        ensures { IfOk result (λ values. values.items
-            ≡ map (read F.write_of self.now.chain self.now.writes db.now) keys.now) }
+        ensures { IfOk result
+            (λ values. values.items ≡ map (read F.write_of self.now.chain self.now.writes db.now)
+            keys.now) }
     {
         Ok(
             keys.iter()
                 .map(|key| self.read(db, key))
                 .collect(self.alloc)?,
         )
+    }
+}
+
+impl<F: RaisingFamily> Unmerkleized<F> {
+    /// The batch sealed: what it appends behind the database and the ancestors that this lacks, and the state
+    /// after that. Its commit's floor is as high as one copy of an old operation for each change allows. Refused as
+    /// [`Unmerkleized::get`] is, then as the log would refuse the first of the missing batches and of this one that
+    /// it doesn't take, and for want of memory. A refusal gives the batch up.
+    pub fn merkleize<H: Hasher>(self, db: &Log<F, H>) -> Result<Merkleized<F>, ManagedFault>
+        ensures stale { IfSome (stale_read self.chain (state_of H.digest F.Op.spelling db.now))
+            (λ fault. result ≡ Err fault) }
+        ensures may { OnOk result (seal_refusal H.digest F.Op.spelling F.floor_of F.write_of F.put_of
+            F.delete_of F.commit_of self db.now ≡ None) }
+        ensures refuses { IfErr result (λ e. (e ≡ ManagedFault.OutOfMemory) ⊎
+            (seal_refusal H.digest F.Op.spelling F.floor_of F.write_of F.put_of F.delete_of F.commit_of
+            self db.now ≡ Some e)) }
+        ensures ok { IfOk result (λ batch. batch ≡ sealed H.digest F.Op.spelling F.floor_of F.write_of
+            F.put_of F.delete_of F.commit_of self db.now) }
+        ensures law { IfOk result (λ batch. Raises F.floor_of F.write_of
+            (completed H.digest F.Op.spelling self.chain db.now)
+            (changes F.write_of F.put_of F.delete_of self.chain db.now self.writes) batch.own.ops) }
+    {
+        let own = match self.sealed(db) {
+            Ok(own) => own,
+            Err(fault) => return Err(fault),
+        };
+        Ok(Merkleized::new(self.alloc, self.hashing, self.chain, own))
+    }
+
+    /// What the batch is behind the database once it is sealed.
+    fn sealed<H: Hasher>(&self, db: &Log<F, H>) -> Result<Link<F>, ManagedFault>
+        ensures stale { IfSome (stale_read self.now.chain (state_of H.digest F.Op.spelling db.now))
+            (λ fault. result ≡ Err fault) }
+        ensures may { OnOk result (seal_refusal H.digest F.Op.spelling F.floor_of F.write_of F.put_of
+            F.delete_of F.commit_of self.now db.now ≡ None) }
+        ensures refuses { IfErr result (λ e. (e ≡ ManagedFault.OutOfMemory) ⊎
+            (seal_refusal H.digest F.Op.spelling F.floor_of F.write_of F.put_of F.delete_of F.commit_of
+            self.now db.now ≡ Some e)) }
+        ensures ok { IfOk result
+            (λ link. link ≡ (sealed H.digest F.Op.spelling F.floor_of F.write_of F.put_of F.delete_of
+            F.commit_of self.now db.now).own) }
+        ensures law { IfOk result (λ link. Raises F.floor_of F.write_of
+            (completed H.digest F.Op.spelling self.now.chain db.now)
+            (changes F.write_of F.put_of F.delete_of self.now.chain db.now self.now.writes) link.ops) }
+    {
+        let links = match lacking(&self.chain, db) {
+            Ok(links) => links,
+            Err(fault) => return Err(fault),
+        };
+        let changes = match self.chain.changes(self.alloc, db, &self.writes) {
+            Ok(changes) => changes,
+            Err(_) => return Err(ManagedFault::OutOfMemory),
+        };
+        match seal(
+            self.alloc,
+            self.hashing,
+            db,
+            links,
+            changes.as_slice(),
+            self.metadata,
+        ) {
+            Ok(link) => Ok(link),
+            Err(fault) => Err(ManagedFault::from(fault)),
+        }
     }
 }

@@ -5,7 +5,7 @@ import random
 import sys
 
 sys.path.insert(0, str(pathlib.Path(__file__).resolve().parents[3] / "tests"))
-from rules import commit, root, update  # noqa: E402
+from rules import commit, root, update, varint  # noqa: E402
 
 
 def replay(ops):
@@ -113,6 +113,31 @@ def reads():
         yield text, next(level[1] for level in reversed(below) if 1 in level)
 
 
+def spelled(op):
+    """The bytes of an operation, whose keys and values are numbers that are repeated 32 times."""
+    if op[0] == "update":
+        return update(bytes([op[1]] * 32), bytes([op[2]] * 32))
+    if op[0] == "delete":
+        return b"\1" + bytes([op[1]] * 32)
+    return commit(op[2]) if op[1] is None else b"\2\1" + bytes([op[1]] * 32) + varint(op[2])
+
+
+def grown(ops, writes, metadata=None):
+    """A log with a batch of these writes behind it."""
+    return ops + raised(ops, changes(replay(ops), writes), metadata)
+
+
+def chain():
+    """A log of one account, and what it is with each of three batches more behind it: a new key; a deletion of the
+    old one, with metadata; and a write of 4, slots for 2, 1 and 2 that put 8, keep 1 and put 9, and unstaged
+    writes, which give 3 a value and take that of 4."""
+    logs = [opened((1, 1))]
+    logs.append(grown(logs[-1], [(2, 2)]))
+    logs.append(grown(logs[-1], [(1, None), (5, None)], 7))
+    logs.append(grown(logs[-1], [(4, 4), (2, 8), (2, 9), (3, 3), (4, None)]))
+    return logs
+
+
 def main():
     for text, value in reads():
         print(text, value)
@@ -121,6 +146,9 @@ def main():
         for place, op in enumerate(raised(ops, changes(replay(ops), writes)), len(ops)):
             print("   ", place, op)
     laws()
+    for ops in chain():
+        print("a log of", len(ops), "floor", floor_of(ops), "root", root([spelled(op) for op in ops]).hex())
+        print("    ", *ops)
     short = [commit(0), update(b"\1" * 32, b"\2" * 32), commit(0)]
     print("root of a log of one account", root(short).hex())
 

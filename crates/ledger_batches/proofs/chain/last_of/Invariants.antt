@@ -1,7 +1,0 @@
-use Rattle.std.proofs.Common.{◌≡◌, take, filter_map}
-use Rattle.ledger_batches.specs.Chain.{ops_of}
-use Rattle.ledger_batches.specs.Writes.{last_write}
-use Rattle.ledger_batches.proofs.chain.last_of.Given as goal
-
-abbrev pub invariant-loop-link : goal.invariant-loop-link
-invariant-loop-link g l = l.found ≡ last_write l.key (filter_map g.F.Family.write_of (ops_of (take l.link-index l.links)))

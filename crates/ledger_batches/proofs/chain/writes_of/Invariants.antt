@@ -1,6 +1,0 @@
-use Rattle.std.proofs.Common.{◌≡◌, take, filter_map}
-use Rattle.ledger_batches.specs.Writes.{settled}
-use Rattle.ledger_batches.proofs.chain.writes_of.Given as goal
-
-abbrev pub invariant-loop-op : goal.invariant-loop-op
-invariant-loop-op g l = l.writes ≡ settled (filter_map g.F.Family.write_of (take l.op-index l.ops))

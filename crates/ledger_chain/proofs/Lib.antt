@@ -1,0 +1,4 @@
+pub mod Settled
+pub mod Newest
+pub mod Behind
+pub mod Changing

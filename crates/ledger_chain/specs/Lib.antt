@@ -1,0 +1,4 @@
+pub mod Writes
+pub mod Chain
+pub mod Changes
+pub mod Faults
