@@ -1,1 +1,3 @@
 pub mod Fives
+pub mod Payments
+pub mod Promised

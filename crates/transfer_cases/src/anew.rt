@@ -1,16 +1,8 @@
 //! Plain settling of payments: each candidate is tried with all that were taken, from the opening accounts on.
 
+use crate::payment::Payment;
 use ledger_codec::OutOfMemory;
 use std::alloc::Global;
-
-/// A payment of an account that numbers its payments.
-#[derive(Clone, Copy, Debug, PartialEq, Eq)]
-pub struct Payment {
-    pub from: u8,
-    pub to: u8,
-    pub amount: u64,
-    pub nonce: u64,
-}
 
 /// The verdicts on the candidates, where each key below `keys` opens with this balance and nonce 0.
 pub fn verdicts_anew(

@@ -9,11 +9,15 @@
 mod anew;
 mod cases;
 mod five;
+mod payment;
+mod promised;
 mod stated;
 
-pub use anew::{Payment, verdicts_anew};
+pub use anew::verdicts_anew;
 pub use cases::{Played, Unmet, body, play};
 pub use five::Five;
+pub use payment::Payment;
+pub use promised::{Both, both_ways, either_order, never_funded};
 pub use stated::Stated;
 
 #[cfg(test)]

@@ -1,5 +1,5 @@
 //! Transfers of stated changes.
-ghost use Rattle.std.specs.Prelude.{◌≡◌, ◌∷◌, []};
+ghost use Rattle.std.specs.Prelude.{◌≡◌, ◌∷◌, [], None};
 
 use ledger_codec::OutOfMemory;
 use ledger_transfers::{Account, Change, Transfer};
@@ -43,7 +43,14 @@ impl<A: Account> Stated<A> {
     }
 
     /// A payment.
-    pub fn pay(from: u8, to: u8, amount: u64) -> Self {
+    pub fn pay(from: u8, to: u8, amount: u64) -> Self
+        ensures { result
+            ≡ record {
+              first = (from, record { debit = amount; credit = 0; effect = None });
+              second = (to, record { debit = 0; credit = amount; effect = None });
+              third = (from, record { debit = 0; credit = 0; effect = None });
+            } }
+    {
         Stated {
             first: (from, Change::debit(amount)),
             second: (to, Change::credit(amount)),

@@ -367,3 +367,23 @@ fn a_batch_is_told_before_it_settles(rt: HostRuntime) -> Result<(), Fail> {
     assert!(rt; !has_no_effects(rt.alloc(), &numbered)?);
     Ok(())
 }
+
+#[test]
+fn promises_are_kept(rt: HostRuntime) -> Result<(), Fail> {
+    assert!(rt; either_order(rt.alloc())?);
+    assert!(rt; never_funded(rt.alloc())?);
+    let both = both_ways(&rt, rt.alloc())?;
+    let want = [
+        Slot::Put(Sequenced {
+            balance: 4,
+            nonce: 1,
+        }),
+        Slot::Put(Sequenced {
+            balance: 6,
+            nonce: 0,
+        }),
+    ];
+    assert_eq!(rt; both.chosen.as_slice(), want.as_slice());
+    assert_eq!(rt; both.planned.as_slice(), want.as_slice());
+    Ok(())
+}
