@@ -1,4 +1,6 @@
 //! Runs of `serve` over links in memory. What is sent is that of vectors/replies.py.
+mod calm;
+
 use crate::{ServeOutcome, run_serve};
 use ledger_codec::{MemorySink, MemorySource};
 use session_spawner::CallerSpawner;
