@@ -1,9 +1,8 @@
 -- A run of the one word `serve`, none of whose calls fails.
-use Rattle.std.proofs.Common.{◌≡◌, ℕ, List, [], ◌∷◌, Option, Some, false, refl, subst, sym, ap, ◌∙◌, arith}
+use Rattle.std.proofs.Common.{◌≡◌, ℕ, List, [], ◌∷◌, Option, Some, false, refl, ap, ◌∙◌, arith}
 use Rattle.std.specs.Prelude.{◌⊎◌, codes}
 use Rattle.ledger_codec.specs.Causes.{Rose}
 use Rattle.serve_parts.specs.Forms.{asked, form_of, nothing_given}
-use Rattle.serve_parts.specs.declared.form.ServeForm.{ServeForm}
 use Rattle.ledger_serve.specs.Serving.{Completes, reads_job}
 
 -- no count rises from 0 to 0
