@@ -16,7 +16,8 @@ import sys
 import tempfile
 
 TOP = pathlib.Path(__file__).resolve().parent.parent
-sys.path.insert(0, str(TOP / "tests"))
+sys.path[:0] = [str(TOP / "tests"), str(TOP / "crates/ledger_batches/vectors")]
+from appended import raised  # noqa: E402
 from checks import Checks, ran  # noqa: E402
 from reference import follow, local, spelling  # noqa: E402
 from rules import answer, frame, root  # noqa: E402
@@ -31,6 +32,8 @@ CALLS = {
     "Log::append_batch": 40,
     "SharedLog::append": 50,
     "SharedLog::serve": 40,
+    "Unmerkleized::merkleize": 60,
+    "apply": 40,
     "Machine::submit": 20,
     "Machine::feed": 20,
     "Machine::next_answer": 20,
@@ -40,7 +43,8 @@ CALLS = {
 }
 CRATES = [
     "ledger_codec", "ledger_merkle", "ledger_log", "ledger_strategy", "ledger_transfers", "ledger_managed", "ledger_job",
-    "ledger_settling", "sync_net", "sync_server", "sync_client", "sync_shared", "ledger_program", "follow_cases",
+    "ledger_settling", "ledger_batches", "sync_net", "sync_server", "sync_client", "sync_shared", "ledger_program",
+    "follow_cases",
 ]
 # The request that is refused.
 REFUSED = max(CALLS.values())
@@ -56,7 +60,8 @@ pay alice bob 5 1
 """
 # The log of two accounts between commits, and what it is grown by.
 FOUR = [("commit", 0), ("update", b"\1" * 32, (10, 1)), ("update", b"\2" * 32, (20, 2)), ("commit", 0)]
-SIX = [*FOUR, ("update", b"\1" * 32, (9, 2)), ("commit", 0)]
+PAID = ("update", b"\1" * 32, (9, 2))
+SIX = [*FOUR, PAID, ("commit", 0)]
 MANY = [*FOUR, *(("update", bytes([number]) * 32, (7, 0)) for number in range(10, 30)), ("commit", 0)]
 
 
@@ -73,6 +78,13 @@ def paid(four, six):
     return int(told["size"]), bytes.fromhex(told["root"])
 
 
+def sealed():
+    """The four with a batch behind them that writes what the first account is left."""
+    told = [("commit", None, op[1]) if op[0] == "commit" else op for op in FOUR]
+    more = raised(told, [PAID])
+    return FOUR + [("commit", op[2]) if op[0] == "commit" else op for op in more]
+
+
 def vectors():
     """The known answers, as a module of the program."""
     four, six, many = ([spelling(op) for op in ops] for ops in (FOUR, SIX, MANY))
@@ -80,8 +92,10 @@ def vectors():
     bodies = {"FIRST_FOUR": answer(six, 1, 0, 4, pinned=True), "LAST_TWO": answer(six, 2, 4, 2)}
     bodies["REPLY"] = frame(answer(six, 1, 0, 6, pinned=True))
     (report, *_), _ = local(JOB.encode())
-    roots = {"FOUR": root(four), "SIX": root(six), "MANY": root(many), "PAID": end}
+    whole = [spelling(op) for op in sealed()]
+    roots = {"FOUR": root(four), "SIX": root(six), "MANY": root(many), "PAID": end, "SEALED": root(whole)}
     lines = ["//! The known answers.\n\nuse ledger_codec::Digest;\n", f"pub const SIZE_OF_PAID: u64 = {size};"]
+    lines += [f"pub const SIZE_OF_SEALED: u64 = {len(whole)};"]
     lines += [f"pub const ROOT_OF_{name}: Digest = {array(digest)};" for name, digest in roots.items()]
     lines += [f"pub const {name}: [u8; {len(body)}] = {array(body)};" for name, body in bodies.items()]
     for name, text in [("JOB", JOB), ("REPORT", report)]:
