@@ -1,10 +1,9 @@
 -- Lists that grow at their end, and where a run was over.
-use Rattle.std.proofs.Common.{◌≡◌, ◌≤◌, ◌+◌, ℕ, Bool, List, [], ◌∷◌, ◌++◌, Option, Result, length, take, sym, ap, ◌∙◌, arith, length-append}
+use Rattle.std.proofs.Common.{◌≡◌, ◌≤◌, ◌+◌, ℕ, List, [], ◌∷◌, ◌++◌, length, take, sym, ap, ◌∙◌, arith, length-append}
 use Rattle.std.proofs.lemmas.List.{append-nil, append_assoc, take-append-le}
 use Rattle.simulate_parts.specs.Tracker.{tracker_of}
-use Rattle.simulate_parts.specs.TrackerView.{TrackerView}
-use Rattle.simulate_parts.specs.declared.engine.StateView.{StateView}
 use Rattle.simulate_parts.specs.declared.tracker.FinalizationUpdate.{FinalizationUpdate}
+use Rattle.ledger_simulate.specs.Meaning.{Meaning}
 use Rattle.ledger_simulate.specs.Reaching.{IsReached}
 use Rattle.ledger_simulate.specs.Runs.{Extends}
 use Rattle.ledger_simulate.specs.declared.reports.Reached.{Reached}
@@ -14,8 +13,8 @@ pub extends_same : {X : Type 0} (before after : List X) → after ≡ before →
 extends_same before after same = record { added = []; is = same ∙ sym (append-nil before) }
 
 -- the condition was met after a first part of a longer list too
-pub still_reached : {C : Type 0} (verdict : C → TrackerView → List StateView → ℕ → Result Bool (List ℕ)) (condition : Option C) (required target : ℕ) (before after more : List FinalizationUpdate) (reached : Reached) → after ≡ before ++ more → IsReached verdict condition required target before reached → IsReached verdict condition required target after reached
-still_reached verdict condition required target before after more reached grown at =
+pub still_reached : {D E S F P C : Type 0} (m : Meaning D E S F P C) (target : ℕ) (before after more : List FinalizationUpdate) (reached : Reached) → after ≡ before ++ more → IsReached m target before reached → IsReached m target after reached
+still_reached m target before after more reached grown at =
     let inside : reached.count ≤ length before = at.within in
     let longer : length after ≡ length before + length more = ap length grown ∙ length-append before more in
     record {

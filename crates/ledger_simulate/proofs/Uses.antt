@@ -4,9 +4,10 @@ use Rattle.std.proofs.lemmas.List.Elements.{All-append, All-nil}
 use Rattle.simulate_parts.specs.Engine.{Passes}
 use Rattle.simulate_parts.specs.declared.tracker.FinalizationUpdate.{FinalizationUpdate}
 use Rattle.ledger_simulate.specs.Handling.{Grows, Seated}
+use Rattle.ledger_simulate.specs.Meaning.{Meaning}
 use Rattle.ledger_simulate.specs.Queue.{first_key}
 use Rattle.ledger_simulate.specs.Results.{EndedView, ResultView}
-use Rattle.ledger_simulate.specs.Stepping.{Course, Fails, FailsAt, Finishes, GoesOn, Meaning}
+use Rattle.ledger_simulate.specs.Stepping.{Course, Fails, FailsAt, Finishes, GoesOn}
 use Rattle.ledger_simulate.specs.Stops.{early_fault, is_late}
 
 -- reports that were none pass, with those that came and pass

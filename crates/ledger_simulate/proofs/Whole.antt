@@ -5,8 +5,9 @@ use Rattle.simulate_parts.specs.Engine.{Passes}
 use Rattle.simulate_parts.specs.declared.tracker.FinalizationUpdate.{FinalizationUpdate}
 use Rattle.ledger_simulate.specs.Handling.{Grows, Seated}
 use Rattle.std.proofs.lemmas.List.{drop_more, take-append-drop}
+use Rattle.ledger_simulate.specs.Meaning.{Meaning}
 use Rattle.ledger_simulate.specs.Results.{EndedView, ResultView}
-use Rattle.ledger_simulate.specs.Stepping.{Course, Fails, FailsAt, Finishes, Goes, GoesOn, Meaning, Opens, RunsAll, RunsTo, Steps, StopsAt, early_of}
+use Rattle.ledger_simulate.specs.Stepping.{Course, Fails, FailsAt, Finishes, Goes, GoesOn, Opens, RunsAll, RunsTo, Steps, StopsAt, early_of}
 use Rattle.ledger_simulate.specs.declared.fault.PlanFault.{PlanFault}
 use Rattle.ledger_simulate.specs.declared.simulation.SimEnd.{SimEnd}
 use Rattle.ledger_simulate.specs.declared.simulation.SimEnd.TheVariants.{Fault, OutOfMemory}

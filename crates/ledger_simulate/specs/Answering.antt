@@ -8,16 +8,16 @@ use Rattle.simulate_parts.specs.declared.engine.StateView.{StateView}
 use Rattle.simulate_parts.specs.declared.engine.StepEvent.{StepEvent}
 use Rattle.simulate_parts.specs.declared.engine.StepOut.{StepOut}
 use Rattle.simulate_parts.specs.declared.peer.Peer.{Peer}
-use Rattle.simulate_parts.specs.declared.schedule.Crash.{Crash}
 use Rattle.simulate_parts.specs.declared.tracker.FinalizationUpdate.{FinalizationUpdate}
-use Rattle.ledger_simulate.specs.Causes.{SkipsAmong}
+use Rattle.ledger_simulate.specs.Causes.{SkipsAmong, StopComes}
 use Rattle.ledger_simulate.specs.Delays.{started_where, target_at}
 use Rattle.ledger_simulate.specs.Exercise.{missed_by}
 use Rattle.ledger_simulate.specs.Failures.{views_checked}
 use Rattle.ledger_simulate.specs.Handling.{Gives, Handles, Seated, SetsOffEach, birth_at, is_poll, number_after, told_by}
+use Rattle.ledger_simulate.specs.Meaning.{Meaning}
 use Rattle.ledger_simulate.specs.Plans.{target_count}
 use Rattle.ledger_simulate.specs.Queue.{AgendaView, QueueView, empty_agenda}
-use Rattle.ledger_simulate.specs.Reaching.{IsReached}
+use Rattle.ledger_simulate.specs.Reaching.{Finds, IsReached}
 use Rattle.ledger_simulate.specs.declared.event.Event.{Event}
 use Rattle.ledger_simulate.specs.declared.fault.PlanFault.{PlanFault}
 use Rattle.ledger_simulate.specs.declared.fault.PlanFault.TheVariants.{EventLimit, Exit, FinalizationProperty, Fork, Idle, NotExercised, Property, SkippedWindow, Timeout}
@@ -25,69 +25,6 @@ use Rattle.ledger_simulate.specs.declared.fault.Stop.{Stop}
 use Rattle.ledger_simulate.specs.declared.fault.Stop.TheVariants.{Fault, OutOfMemory}
 use Rattle.ledger_simulate.specs.declared.reports.Reached.{Reached}
 use Rattle.ledger_simulate.specs.declared.world.World.{World}
-
--- the states that checks see at one of these reports, after those before it had set failures off
-pub record Sees {D E S : Type 0} (peer_of : E → Peer) (height : S → ℕ) (shown : S → List ℕ) (participants : List Peer) (crashes : List Crash) (holds : List FinalizationUpdate → Bool → World D E S → Type 0) (a : AgendaView) (u : World D E S) (updates more : List FinalizationUpdate) (states : List StateView) : Type 0 where
-  pub earlier : List FinalizationUpdate
-  pub update : FinalizationUpdate
-  pub rest : List FinalizationUpdate
-  pub reported : updates ≡ earlier ++ update ∷ rest
-  pub upto : more ≡ earlier ++ update ∷ []
-  pub made : AgendaView
-  pub world : World D E S
-  pub set_off : SetsOffEach peer_of height participants crashes holds updates false (length earlier) a made u world
-  pub are : states ≡ views_checked height shown crashes world
-
--- the engine that was to be told this took one step
-pub record Took {D E S : Type 0} (peer_of : E → Peer) (journal : Option (E → List (StepEvent × StepOut))) (reports : Option (FinalizationUpdate → Bool)) (told : Option (Peer × Option ℕ × StepEvent)) (a : AgendaView) (u : World D E S) : Type 0 where
-  pub pk : Peer
-  pub given_birth : Option ℕ
-  pub event : StepEvent
-  pub tells : told ≡ Some (pk, given_birth, event)
-  pub birth : ℕ
-  pub runs : birth_at u.seats.entries pk given_birth ≡ Some birth
-  pub out : StepOut
-  pub given : AgendaView
-  pub mid : World D E S
-  pub gives : Gives peer_of journal reports pk birth event out a given u mid
-
--- what it reported in that step
-abbrev pub reported_by : {D E S : Type 0} {peer_of : E → Peer} {journal : Option (E → List (StepEvent × StepOut))} {reports : Option (FinalizationUpdate → Bool)} {told : Option (Peer × Option ℕ × StepEvent)} {a : AgendaView} {u : World D E S} → Took peer_of journal reports told a u → List FinalizationUpdate
-reported_by took = updates_of took.pk took.out.finalized
-
--- it reported this after these; a report passes the test, where one is told and the engines are their peers'
-pub record ReportsThen {D E S : Type 0} (peer_of : E → Peer) (journal : Option (E → List (StepEvent × StepOut))) (reports : Option (FinalizationUpdate → Bool)) (told : Option (Peer × Option ℕ × StepEvent)) (a : AgendaView) (u : World D E S) (more : List FinalizationUpdate) (update : FinalizationUpdate) : Type 0 where
-  pub took : Took peer_of journal reports told a u
-  pub rest : List FinalizationUpdate
-  pub in_turn : reported_by took ≡ more ++ update ∷ rest
-  pub passes : Seated peer_of (number_after a) u.seats.entries → Passes reports update
-
--- the states that checks see at a report of that step
-pub record SeesAfter {D E S : Type 0} (peer_of : E → Peer) (journal : Option (E → List (StepEvent × StepOut))) (reports : Option (FinalizationUpdate → Bool)) (height : S → ℕ) (shown : S → List ℕ) (participants : List Peer) (crashes : List Crash) (holds : List FinalizationUpdate → Bool → World D E S → Type 0) (told : Option (Peer × Option ℕ × StepEvent)) (a : AgendaView) (u : World D E S) (more : List FinalizationUpdate) (states : List StateView) : Type 0 where
-  pub took : Took peer_of journal reports told a u
-  pub sees : Sees peer_of height shown participants crashes holds took.given took.mid (reported_by took) more states
-
--- a report of that step found this height above a window that wasn't entered, after those before it had set
--- failures off
-pub record SkipsAfter {D E S : Type 0} (peer_of : E → Peer) (journal : Option (E → List (StepEvent × StepOut))) (reports : Option (FinalizationUpdate → Bool)) (height : S → ℕ) (participants : List Peer) (crashes : List Crash) (holds : List FinalizationUpdate → Bool → World D E S → Type 0) (told : Option (Peer × Option ℕ × StepEvent)) (a : AgendaView) (u : World D E S) (skipped : ℕ) : Type 0 where
-  pub took : Took peer_of journal reports told a u
-  pub skips : SkipsAmong peer_of height participants crashes holds (reported_by took) took.given took.mid skipped
-
--- the exit condition is asked of no report, on the states of the engines that run, where the event is a poll
-abbrev pub IsPolled : {D E S : Type 0} → (S → ℕ) → (S → List ℕ) → Bool → World D E S → List FinalizationUpdate → List StateView → Type 0
-IsPolled height shown polled u more states = IsTrue polled × (more ≡ []) × (states ≡ active_views height shown u.seats.entries)
-
--- the reports and the states with which the exit condition is asked in a step that tells an engine this, if it is
--- for one, and that is a poll, if it is
-abbrev pub Asked : {D E S : Type 0} → (E → Peer) → Option (E → List (StepEvent × StepOut)) → Option (FinalizationUpdate → Bool) → (S → ℕ) → (S → List ℕ) → List Peer → List Crash → (List FinalizationUpdate → Bool → World D E S → Type 0) → Option (Peer × Option ℕ × StepEvent) → Bool → AgendaView → World D E S → List FinalizationUpdate → List StateView → Type 0
-Asked peer_of journal reports height shown participants crashes holds told polled a u more states =
-    IsPolled height shown polled u more states ⊎ SeesAfter peer_of journal reports height shown participants crashes holds told a u more states
-
--- the same, and how many participants count for it then
-abbrev pub Asks : {D E S : Type 0} → (E → Peer) → Option (E → List (StepEvent × StepOut)) → Option (FinalizationUpdate → Bool) → (S → ℕ) → (S → List ℕ) → List Peer → List Crash → (List FinalizationUpdate → Bool → World D E S → Type 0) → Option (Peer × Option ℕ × StepEvent) → Bool → List FinalizationUpdate → AgendaView → World D E S → List FinalizationUpdate → List StateView → ℕ → Type 0
-Asks peer_of journal reports height shown participants crashes holds told polled before a u more states target =
-    Asked peer_of journal reports height shown participants crashes holds told polled a u more states
-    × (target ≡ target_at participants crashes before u.exercise.delayed_started more)
 
 -- the exit condition was met after so many reports behind these, on states that were seen then
 abbrev pub MetOn : (List FinalizationUpdate → List StateView → Type 0) → List FinalizationUpdate → Reached → Type 0
@@ -97,24 +34,6 @@ MetOn seen before reached =
 -- no report more, and these states
 abbrev pub EndsAt : List StateView → List FinalizationUpdate → List StateView → Type 0
 EndsAt reached more states = (more ≡ []) × (states ≡ reached)
-
--- the first event was handled, with these reports more, and the exit condition answered true on these states
-pub record Ends {D E S C : Type 0} (peer_of : E → Peer) (journal : Option (E → List (StepEvent × StepOut))) (reports : Option (FinalizationUpdate → Bool)) (height : S → ℕ) (shown : S → List ℕ) (holds : List FinalizationUpdate → Bool → World D E S → Type 0) (verdict : C → TrackerView → List StateView → ℕ → Result Bool (List ℕ)) (condition : Option C) (required : ℕ) (participants : List Peer) (crashes : List Crash) (queue : QueueView) (before : List FinalizationUpdate) (u : World D E S) (more : List FinalizationUpdate) (states : List StateView) : Type 0 where
-  pub entry : (ℕ × ℕ) × Event
-  pub rest : List ((ℕ × ℕ) × Event)
-  pub first : queue.entries ≡ entry ∷ rest
-  pub made : AgendaView
-  pub after : World D E S
-  pub reached : Reached
-  pub handles : Handles peer_of journal reports height participants crashes holds (Some reached) entry.0 entry.1 (empty_agenda queue.next) made before (before ++ more) u after
-  pub met : IsReached verdict condition required (target_count participants crashes (started_where participants crashes before u.exercise.delayed_started reached.count more)) (before ++ more) reached
-  pub seen : MetOn (Asked peer_of journal reports height shown participants crashes holds (told_by entry.0 entry.1) (is_poll entry.1) (empty_agenda queue.next) u) before reached
-  pub are : states ≡ reached.states.items
-
--- the first event was handled, the exit condition was met, and the first failure that came to nothing is this one
-abbrev pub MissesAt : {D E S C : Type 0} → (E → Peer) → Option (E → List (StepEvent × StepOut)) → Option (FinalizationUpdate → Bool) → (S → ℕ) → (S → List ℕ) → (List FinalizationUpdate → Bool → World D E S → Type 0) → (C → TrackerView → List StateView → ℕ → Result Bool (List ℕ)) → Option C → ℕ → List Peer → List Crash → QueueView → List FinalizationUpdate → World D E S → ℕ → Type 0
-MissesAt peer_of journal reports height shown holds verdict condition required participants crashes queue before u index =
-    (more : List FinalizationUpdate) × (states : List StateView) × (end : Ends peer_of journal reports height shown holds verdict condition required participants crashes queue before u more states) × (missed_by end.after.exercise crashes ≡ Some index)
 
 -- one of these checks has this name and complains of the states by this text
 pub record Complains {F : Type 0} (called : F → List ℕ) (complaint : F → List StateView → Option (List ℕ)) (checks : List F) (states : List StateView) (name text : List ℕ) : Type 0 where
@@ -152,24 +71,137 @@ abbrev pub IsFailure : {C : Type 0} → (C → List ℕ) → (C → TrackerView 
 IsFailure called verdict condition tracker states target stop =
     (stop ≡ OutOfMemory) ⊎ ((name : List ℕ) × (text : List ℕ) × (stop ≡ Fault (Exit name text)) × Fails called verdict condition tracker states target name text)
 
--- where a check's fault ends a run, that check answers so: a check at a report at a moment that was seen, the
--- exit condition where it was asked, a property at the end
-abbrev pub Answered : {F P C : Type 0} → (F → List ℕ) → (F → List StateView → Option (List ℕ)) → (P → List ℕ) → (P → TrackerView → List StateView → Option (List ℕ)) → (C → List ℕ) → (C → TrackerView → List StateView → ℕ → Result Bool (List ℕ)) → List F → List P → Option C → (List FinalizationUpdate → List StateView → Type 0) → (List FinalizationUpdate → List StateView → ℕ → Type 0) → (List FinalizationUpdate → List StateView → Type 0) → List FinalizationUpdate → PlanFault → Type 0
-Answered fname fsays pname psays cname csays checks properties condition seen asked ended before (FinalizationProperty name text) =
-    (more : List FinalizationUpdate) × (states : List StateView) × seen more states × Complains fname fsays checks states name text
-Answered fname fsays pname psays cname csays checks properties condition seen asked ended before (Property name text) =
-    (more : List FinalizationUpdate) × (states : List StateView) × ended more states × Objects pname psays properties (tracker_of (before ++ more)) states name text
-Answered fname fsays pname psays cname csays checks properties condition seen asked ended before (Exit name text) =
-    (more : List FinalizationUpdate) × (states : List StateView) × (target : ℕ) × asked more states target × Fails cname csays condition (tracker_of (before ++ more)) states target name text
-Answered fname fsays pname psays cname csays checks properties condition seen asked ended before (Fork update fault) = Unit {0}
-Answered fname fsays pname psays cname csays checks properties condition seen asked ended before Timeout = Unit {0}
-Answered fname fsays pname psays cname csays checks properties condition seen asked ended before EventLimit = Unit {0}
-Answered fname fsays pname psays cname csays checks properties condition seen asked ended before Idle = Unit {0}
-Answered fname fsays pname psays cname csays checks properties condition seen asked ended before (SkippedWindow height) = Unit {0}
-Answered fname fsays pname psays cname csays checks properties condition seen asked ended before (NotExercised index) = Unit {0}
+-- what stands below is said of what a plan means
+module _ {D E S F P C : Type 0} (m : Meaning D E S F P C) where
+  -- the states that checks see at one of these reports, after those before it had set failures off
+  pub record Sees (holds : List FinalizationUpdate → Bool → World D E S → Type 0) (a : AgendaView)
+      (u : World D E S) (updates more : List FinalizationUpdate) (states : List StateView) : Type 0 where
+    pub earlier : List FinalizationUpdate
+    pub update : FinalizationUpdate
+    pub rest : List FinalizationUpdate
+    pub reported : updates ≡ earlier ++ update ∷ rest
+    pub upto : more ≡ earlier ++ update ∷ []
+    pub made : AgendaView
+    pub world : World D E S
+    pub set_off : SetsOffEach m holds updates false (length earlier) a made u world
+    pub are : states ≡ views_checked m.height m.shown m.crashes world
 
--- the same of a stop
-abbrev pub StopAnswered : {F P C : Type 0} → (F → List ℕ) → (F → List StateView → Option (List ℕ)) → (P → List ℕ) → (P → TrackerView → List StateView → Option (List ℕ)) → (C → List ℕ) → (C → TrackerView → List StateView → ℕ → Result Bool (List ℕ)) → List F → List P → Option C → (List FinalizationUpdate → List StateView → Type 0) → (List FinalizationUpdate → List StateView → ℕ → Type 0) → (List FinalizationUpdate → List StateView → Type 0) → List FinalizationUpdate → Stop → Type 0
-StopAnswered fname fsays pname psays cname csays checks properties condition seen asked ended before (Fault fault) =
-    Answered fname fsays pname psays cname csays checks properties condition seen asked ended before fault
-StopAnswered fname fsays pname psays cname csays checks properties condition seen asked ended before OutOfMemory = Unit {0}
+  -- the engine that was to be told this took one step
+  pub record Took (told : Option (Peer × Option ℕ × StepEvent)) (a : AgendaView) (u : World D E S) : Type 0 where
+    pub pk : Peer
+    pub given_birth : Option ℕ
+    pub event : StepEvent
+    pub tells : told ≡ Some (pk, given_birth, event)
+    pub birth : ℕ
+    pub runs : birth_at u.seats.entries pk given_birth ≡ Some birth
+    pub out : StepOut
+    pub given : AgendaView
+    pub mid : World D E S
+    pub gives : Gives m pk birth event out a given u mid
+
+  -- it reported this after these; a report passes the test, where one is told and the engines are their peers'
+  pub record ReportsThen (told : Option (Peer × Option ℕ × StepEvent)) (a : AgendaView) (u : World D E S)
+      (more : List FinalizationUpdate) (update : FinalizationUpdate) : Type 0 where
+    pub took : Took told a u
+    pub rest : List FinalizationUpdate
+    pub in_turn : updates_of took.pk took.out.finalized ≡ more ++ update ∷ rest
+    pub passes : Seated m.peer_of (number_after a) u.seats.entries → Passes m.reports update
+
+  -- the states that checks see at a report of that step
+  pub record SeesAfter (holds : List FinalizationUpdate → Bool → World D E S → Type 0)
+      (told : Option (Peer × Option ℕ × StepEvent)) (a : AgendaView) (u : World D E S)
+      (more : List FinalizationUpdate) (states : List StateView) : Type 0 where
+    pub took : Took told a u
+    pub sees : Sees holds took.given took.mid (updates_of took.pk took.out.finalized) more states
+
+  -- a report of that step found this height above a window that wasn't entered, after those before it had set
+  -- failures off
+  pub record SkipsAfter (holds : List FinalizationUpdate → Bool → World D E S → Type 0)
+      (told : Option (Peer × Option ℕ × StepEvent)) (a : AgendaView) (u : World D E S) (skipped : ℕ) : Type 0 where
+    pub took : Took told a u
+    pub skips : SkipsAmong m holds (updates_of took.pk took.out.finalized) took.given took.mid skipped
+
+  -- the exit condition is asked of no report, on the states of the engines that run, where the event is a poll
+  abbrev pub IsPolled : Bool → World D E S → List FinalizationUpdate → List StateView → Type 0
+  IsPolled polled u more states =
+      IsTrue polled × (more ≡ []) × (states ≡ active_views m.height m.shown u.seats.entries)
+
+  -- the reports and the states with which the exit condition is asked in a step that tells an engine this, if it
+  -- is for one, and that is a poll, if it is
+  abbrev pub Asked : (List FinalizationUpdate → Bool → World D E S → Type 0)
+      → Option (Peer × Option ℕ × StepEvent) → Bool → AgendaView → World D E S → List FinalizationUpdate
+      → List StateView → Type 0
+  Asked holds told polled a u more states = IsPolled polled u more states ⊎ SeesAfter holds told a u more states
+
+  -- the same, and how many participants count for it then
+  abbrev pub Asks : (List FinalizationUpdate → Bool → World D E S → Type 0)
+      → Option (Peer × Option ℕ × StepEvent) → Bool → List FinalizationUpdate → AgendaView → World D E S
+      → List FinalizationUpdate → List StateView → ℕ → Type 0
+  Asks holds told polled before a u more states target =
+      Asked holds told polled a u more states
+      × (target ≡ target_at m.participants m.crashes before u.exercise.delayed_started more)
+
+  -- the first event was handled, with these reports more, and the exit condition answered true on these states
+  pub record Ends (holds : List FinalizationUpdate → Bool → World D E S → Type 0) (queue : QueueView)
+      (before : List FinalizationUpdate) (u : World D E S) (more : List FinalizationUpdate)
+      (states : List StateView) : Type 0 where
+    pub entry : (ℕ × ℕ) × Event
+    pub rest : List ((ℕ × ℕ) × Event)
+    pub first : queue.entries ≡ entry ∷ rest
+    pub made : AgendaView
+    pub after : World D E S
+    pub reached : Reached
+    pub handles : Handles m holds (Some reached) entry.0 entry.1 (empty_agenda queue.next) made before
+        (before ++ more) u after
+    pub met : IsReached m
+        (target_count m.participants m.crashes
+        (started_where m.participants m.crashes before u.exercise.delayed_started reached.count more))
+        (before ++ more) reached
+    pub seen : MetOn
+        (Asked holds (told_by entry.0 entry.1) (is_poll entry.1) (empty_agenda queue.next) u) before reached
+    pub are : states ≡ reached.states.items
+
+  -- the first event was handled, the exit condition was met, and the first failure that came to nothing is this
+  -- one
+  abbrev pub MissesAt : (List FinalizationUpdate → Bool → World D E S → Type 0) → QueueView
+      → List FinalizationUpdate → World D E S → ℕ → Type 0
+  MissesAt holds queue before u index =
+      (more : List FinalizationUpdate) × (states : List StateView)
+      × (end : Ends holds queue before u more states) × (missed_by end.after.exercise m.crashes ≡ Some index)
+
+  -- where a check's fault ends a run, that check answers so: a check at a report at a moment that was seen, the
+  -- exit condition where it was asked, a property at the end
+  abbrev pub Answered : (List FinalizationUpdate → List StateView → Type 0)
+      → (List FinalizationUpdate → List StateView → ℕ → Type 0)
+      → (List FinalizationUpdate → List StateView → Type 0) → List FinalizationUpdate → PlanFault → Type 0
+  Answered seen asked ended before (FinalizationProperty name text) =
+      (more : List FinalizationUpdate) × (states : List StateView) × seen more states
+      × Complains m.check_name m.complaint m.checks states name text
+  Answered seen asked ended before (Property name text) =
+      (more : List FinalizationUpdate) × (states : List StateView) × ended more states
+      × Objects m.property_name m.objection m.properties (tracker_of (before ++ more)) states name text
+  Answered seen asked ended before (Exit name text) =
+      (more : List FinalizationUpdate) × (states : List StateView) × (target : ℕ) × asked more states target
+      × Fails m.condition_name m.verdict m.condition (tracker_of (before ++ more)) states target name text
+  Answered seen asked ended before (Fork update fault) = Unit {0}
+  Answered seen asked ended before Timeout = Unit {0}
+  Answered seen asked ended before EventLimit = Unit {0}
+  Answered seen asked ended before Idle = Unit {0}
+  Answered seen asked ended before (SkippedWindow height) = Unit {0}
+  Answered seen asked ended before (NotExercised index) = Unit {0}
+
+  -- the same of a stop
+  abbrev pub StopAnswered : (List FinalizationUpdate → List StateView → Type 0)
+      → (List FinalizationUpdate → List StateView → ℕ → Type 0)
+      → (List FinalizationUpdate → List StateView → Type 0) → List FinalizationUpdate → Stop → Type 0
+  StopAnswered seen asked ended before (Fault fault) = Answered seen asked ended before fault
+  StopAnswered seen asked ended before OutOfMemory = Unit {0}
+
+  -- what a stop of a step that tells an engine this comes from
+  abbrev pub ComesIn : Option (Peer × Option ℕ × StepEvent) → AgendaView → List FinalizationUpdate → World D E S → Stop → Type 0
+  ComesIn told a before u = StopComes (ReportsThen told a u) (SkipsAfter (Finds m before) told a u) before
+
+  -- where a check's fault stops such a step, that check answers so; a poll asks the exit condition
+  abbrev pub AnsweredIn : Option (Peer × Option ℕ × StepEvent) → Bool → AgendaView → List FinalizationUpdate → World D E S → Stop → Type 0
+  AnsweredIn told polled a before u =
+      StopAnswered (SeesAfter (Finds m before) told a u) (Asks (Finds m before) told polled before a u) (λ more states. ⊥) before

@@ -1,12 +1,11 @@
 -- What the faults that end a run while an event is handled come from.
 use Rattle.std.specs.Prelude.{◌≡◌, ◌⊎◌, ◌<◌, ℕ, Bool, true, false, List, ◌++◌, Some, length}
 use Rattle.simulate_parts.specs.Tracker.{observe_fault, tracker_of}
-use Rattle.simulate_parts.specs.declared.schedule.Crash.{Crash}
 use Rattle.simulate_parts.specs.declared.tracker.FinalizationUpdate.{FinalizationUpdate}
 use Rattle.simulate_parts.specs.declared.tracker.ObserveFault.{ObserveFault}
-use Rattle.simulate_parts.specs.declared.peer.Peer.{Peer}
 use Rattle.ledger_simulate.specs.Failures.{first_passed, standing_of}
 use Rattle.ledger_simulate.specs.Handling.{SetsOffEach}
+use Rattle.ledger_simulate.specs.Meaning.{Meaning}
 use Rattle.ledger_simulate.specs.Queue.{AgendaView}
 use Rattle.ledger_simulate.specs.declared.world.World.{World}
 use Rattle.ledger_simulate.specs.declared.fault.PlanFault.{PlanFault}
@@ -30,16 +29,6 @@ is_asked (NotExercised index) = false
 abbrev pub stops_asked : Stop → Bool
 stops_asked (Fault fault) = is_asked fault
 stops_asked OutOfMemory = true
-
--- at one of these reports, after those before it had set failures off, this height was found above a window that
--- wasn't entered
-pub record SkipsAmong {D E S : Type 0} (peer_of : E → Peer) (height : S → ℕ) (participants : List Peer) (crashes : List Crash) (holds : List FinalizationUpdate → Bool → World D E S → Type 0) (updates : List FinalizationUpdate) (a : AgendaView) (u : World D E S) (skipped : ℕ) : Type 0 where
-  pub count : ℕ
-  pub within : count < length updates
-  pub made : AgendaView
-  pub world : World D E S
-  pub set_off : SetsOffEach peer_of height participants crashes holds updates false count a made u world
-  pub skips : first_passed height 0 crashes (standing_of world) ≡ Some skipped
 
 -- a window was passed, or memory was wanting
 abbrev pub IsSkip : (ℕ → Type 0) → Stop → Type 0
@@ -72,3 +61,16 @@ StopComes reported skipped before OutOfMemory = Unit {0}
 -- what a fault after the last event comes from
 abbrev pub EndComes : (ℕ → Type 0) → List FinalizationUpdate → PlanFault → Type 0
 EndComes missed before fault = Comes (λ more update. ⊥) (λ height. ⊥) missed before fault
+
+-- what stands below is said of what a plan means
+module _ {D E S F P C : Type 0} (m : Meaning D E S F P C) where
+  -- at one of these reports, after those before it had set failures off, this height was found above a window
+  -- that wasn't entered
+  pub record SkipsAmong (holds : List FinalizationUpdate → Bool → World D E S → Type 0)
+      (updates : List FinalizationUpdate) (a : AgendaView) (u : World D E S) (skipped : ℕ) : Type 0 where
+    pub count : ℕ
+    pub within : count < length updates
+    pub made : AgendaView
+    pub world : World D E S
+    pub set_off : SetsOffEach m holds updates false count a made u world
+    pub skips : first_passed m.height 0 m.crashes (standing_of world) ≡ Some skipped

@@ -8,13 +8,13 @@ use Rattle.simulate_parts.specs.declared.engine.StepEvent.{StepEvent}
 use Rattle.simulate_parts.specs.declared.engine.StepEvent.TheVariants.{Started as told_start, Timer as told_timer, Received as told_message}
 use Rattle.simulate_parts.specs.declared.engine.StepOut.{StepOut}
 use Rattle.simulate_parts.specs.declared.peer.Peer.{Peer}
-use Rattle.simulate_parts.specs.declared.schedule.Crash.{Crash}
 use Rattle.simulate_parts.specs.declared.seats.Running.{Running}
 use Rattle.simulate_parts.specs.declared.seats.Seat.{Seat}
 use Rattle.simulate_parts.specs.declared.tracker.FinalizationUpdate.{FinalizationUpdate}
 use Rattle.ledger_simulate.specs.Delays.{Launches}
 use Rattle.ledger_simulate.specs.Failures.{first_passed, standing_of, tally_after, tally_of, windows_entered}
 use Rattle.ledger_simulate.specs.Links.{link_of}
+use Rattle.ledger_simulate.specs.Meaning.{Meaning}
 use Rattle.ledger_simulate.specs.Messages.{delivered, lets_through, timers_of}
 use Rattle.ledger_simulate.specs.Opening.{starts}
 use Rattle.ledger_simulate.specs.Queue.{AgendaView, QueueView}
@@ -67,29 +67,6 @@ pub record ChangesEnginesAlone {D E S : Type 0} (peer_of : E → Peer) (a b : Ag
   pub words : v.words ≡ u.words
   pub links : v.links ≡ u.links
 
--- a report sets failures off: no window was passed, windows are entered, this holds then, and after that the delayed
--- participants may be started
-pub record SetsOff {D E S : Type 0} (peer_of : E → Peer) (height : S → ℕ) (participants : List Peer) (crashes : List Crash) (holds : World D E S → Type 0) (a b : AgendaView) (u v : World D E S) : Type 0 where
-  pub made : AgendaView
-  pub mid : World D E S
-  pub unpassed : first_passed height 0 crashes (standing_of u) ≡ None
-  pub enters : ChangesEnginesAlone peer_of a made u mid
-  pub entered : standing_of mid ≡ windows_entered height 0 crashes (standing_of u)
-  pub held : holds mid
-  pub changes_alone : ChangesEnginesAlone peer_of made b mid v
-  pub launched : List Peer
-  pub launches : Launches participants crashes mid.exercise.delayed_started v.exercise.delayed_started launched
-  pub events : b.events ≡ made.events ++ starts launched
-  pub tally : tally_of v.exercise ≡ tally_of mid.exercise
-
--- the first so many of these reports set failures off, one after another, and this held as each of them did; the exit
--- condition answered false at each but the last of them, and at that one what is given
-abbrev pub SetsOffEach : {D E S : Type 0} → (E → Peer) → (S → ℕ) → List Peer → List Crash → (List FinalizationUpdate → Bool → World D E S → Type 0) → List FinalizationUpdate → Bool → ℕ → AgendaView → AgendaView → World D E S → World D E S → Type 0
-SetsOffEach peer_of height participants crashes holds more met zero a b u v = (b ≡ a) × (v ≡ u)
-SetsOffEach {D} {E} {S} peer_of height participants crashes holds more met (suc n) a b u v =
-    (m : AgendaView) × (w : World D E S) × SetsOffEach peer_of height participants crashes holds more false n a m u w
-    × SetsOff peer_of height participants crashes (holds (take (suc n) more) met) m b w v
-
 -- how many of a step's reports, behind earlier ones, set failures off: all, or those up to where the exit
 -- condition was met
 abbrev pub count_setting_off : List FinalizationUpdate → List FinalizationUpdate → Option Reached → ℕ
@@ -101,44 +78,15 @@ abbrev pub carried : {D E S : Type 0} → World D E S → List (Peer × Seat D E
 carried w seats pk messages =
     delivered (lets_through w.rules.max_size w.rules.channels.items (runs seats) pk) (link_of w.links pk) w.words pk messages
 
--- an engine took one step, and its timers and then its messages were made, in the order in which it gave them
-pub record Gives {D E S : Type 0} (peer_of : E → Peer) (journal : Option (E → List (StepEvent × StepOut))) (reports : Option (FinalizationUpdate → Bool)) (pk : Peer) (birth : ℕ) (event : StepEvent) (out : StepOut) (a b : AgendaView) (u v : World D E S) : Type 0 where
-  pub step : Steps peer_of journal reports pk event out u.seats.entries v.seats.entries
-  pub next : b.next ≡ a.next
-  pub events : b.events ≡ a.events ++ timers_of pk birth out.timers ++ (carried u v.seats.entries pk out.messages).0
-  pub words : v.words ≡ (carried u v.seats.entries pk out.messages).1
-  pub links : v.links ≡ u.links
-  pub rules : v.rules ≡ u.rules
-  pub exercise : v.exercise ≡ u.exercise
-
 -- the number under which a peer's engine was started, where it runs and was started under this number, if
 -- one is given
 abbrev pub birth_at : {D E S : Type 0} → List (Peer × Seat D E S) → Peer → Option ℕ → Option ℕ
 birth_at seats pk None = option_map (λ r. r.birth) (running_at seats pk)
 birth_at seats pk (Some birth) = if runs_since seats pk birth then Some birth else None
 
--- an engine took one step, and its reports were observed, with the failures that they set off
-pub record Turns {D E S : Type 0} (peer_of : E → Peer) (journal : Option (E → List (StepEvent × StepOut))) (reports : Option (FinalizationUpdate → Bool)) (height : S → ℕ) (participants : List Peer) (crashes : List Crash) (holds : List FinalizationUpdate → Bool → World D E S → Type 0) (reached : Option Reached) (pk : Peer) (birth : ℕ) (event : StepEvent) (a b : AgendaView) (us vs : List FinalizationUpdate) (u v : World D E S) : Type 0 where
-  pub out : StepOut
-  pub given : AgendaView
-  pub mid : World D E S
-  pub gives : Gives peer_of journal reports pk birth event out a given u mid
-  pub reported : vs ≡ us ++ updates_of pk out.finalized
-  pub set_off : SetsOffEach peer_of height participants crashes holds (updates_of pk out.finalized) (is_some reached) (count_setting_off us (updates_of pk out.finalized) reached) given b mid v
-
 -- nothing happened
 abbrev pub Rests : {D E S : Type 0} → AgendaView → AgendaView → List FinalizationUpdate → List FinalizationUpdate → World D E S → World D E S → Type 0
 Rests a b us vs u v = (b ≡ a) × (vs ≡ us) × (v ≡ u)
-
--- the engine that an event is for took a step, where it still runs
-abbrev pub Tells : {D E S : Type 0} → (E → Peer) → Option (E → List (StepEvent × StepOut)) → Option (FinalizationUpdate → Bool) → (S → ℕ) → List Peer → List Crash → (List FinalizationUpdate → Bool → World D E S → Type 0) → Option Reached → Peer → Option ℕ → StepEvent → AgendaView → AgendaView → List FinalizationUpdate → List FinalizationUpdate → World D E S → World D E S → Type 0
-Tells peer_of journal reports height participants crashes holds reached pk birth event a b us vs u v =
-    MatchOption (birth_at u.seats.entries pk birth) (Rests a b us vs u v) (λ n. Turns peer_of journal reports height participants crashes holds reached pk n event a b us vs u v)
-
--- an event that is for no engine was handled
-abbrev pub HandlesOther : {D E S : Type 0} → (E → Peer) → List Crash → Event → AgendaView → AgendaView → List FinalizationUpdate → List FinalizationUpdate → World D E S → World D E S → Type 0
-HandlesOther peer_of crashes event a b us vs u v =
-    (vs ≡ us) × ChangesEngines peer_of a b u v × (tally_of v.exercise ≡ tally_after crashes event u)
 
 -- what an event of this time and number tells an engine: the engine's peer, its birth where one is given,
 -- and what it is told
@@ -169,13 +117,81 @@ told_first q = option_and_then (λ e. told_by e.0 e.1) (slice_get q.entries 0)
 abbrev pub polls_first : QueueView → Bool
 polls_first q = option_map_or (λ e. is_poll e.1) (slice_get q.entries 0) false
 
--- the event of this time and number was handled, and the exit condition was met there, if it was
-abbrev pub Handles : {D E S : Type 0} → (E → Peer) → Option (E → List (StepEvent × StepOut)) → Option (FinalizationUpdate → Bool) → (S → ℕ) → List Peer → List Crash → (List FinalizationUpdate → Bool → World D E S → Type 0) → Option Reached → ℕ × ℕ → Event → AgendaView → AgendaView → List FinalizationUpdate → List FinalizationUpdate → World D E S → World D E S → Type 0
-Handles peer_of journal reports height participants crashes holds reached key event a b us vs u v =
-    MatchOption (told_by key event) (HandlesOther peer_of crashes event a b us vs u v) (λ t. Tells peer_of journal reports height participants crashes holds reached t.0 t.1 t.2 a b us vs u v)
-
 -- a list has grown at its end by reports that pass the test, where one is told
 pub record Grows (reports : Option (FinalizationUpdate → Bool)) (before after : List FinalizationUpdate) : Type 0 where
   pub added : List FinalizationUpdate
   pub is : after ≡ before ++ added
   pub passes : All (Passes reports) added
+
+-- what stands below is said of what a plan means
+module _ {D E S F P C : Type 0} (m : Meaning D E S F P C) where
+  -- an engine took one step, and its timers and then its messages were made, in the order in which it gave them
+  pub record Gives (pk : Peer) (birth : ℕ) (event : StepEvent) (out : StepOut) (a b : AgendaView)
+      (u v : World D E S) : Type 0 where
+    pub step : Steps m.peer_of m.journal m.reports pk event out u.seats.entries v.seats.entries
+    pub next : b.next ≡ a.next
+    pub events : b.events
+        ≡ a.events ++ timers_of pk birth out.timers ++ (carried u v.seats.entries pk out.messages).0
+    pub words : v.words ≡ (carried u v.seats.entries pk out.messages).1
+    pub links : v.links ≡ u.links
+    pub rules : v.rules ≡ u.rules
+    pub exercise : v.exercise ≡ u.exercise
+
+  -- a report sets failures off: no window was passed, windows are entered, this holds then, and after that the
+  -- delayed participants may be started
+  pub record SetsOff (holds : World D E S → Type 0) (a b : AgendaView) (u v : World D E S) : Type 0 where
+    pub made : AgendaView
+    pub mid : World D E S
+    pub unpassed : first_passed m.height 0 m.crashes (standing_of u) ≡ None
+    pub enters : ChangesEnginesAlone m.peer_of a made u mid
+    pub entered : standing_of mid ≡ windows_entered m.height 0 m.crashes (standing_of u)
+    pub held : holds mid
+    pub changes_alone : ChangesEnginesAlone m.peer_of made b mid v
+    pub launched : List Peer
+    pub launches : Launches m.participants m.crashes mid.exercise.delayed_started v.exercise.delayed_started
+        launched
+    pub events : b.events ≡ made.events ++ starts launched
+    pub tally : tally_of v.exercise ≡ tally_of mid.exercise
+
+  -- the first so many of these reports set failures off, one after another, and this held as each of them did;
+  -- the exit condition answered false at each but the last of them, and at that one what is given
+  abbrev pub SetsOffEach : (List FinalizationUpdate → Bool → World D E S → Type 0) → List FinalizationUpdate
+      → Bool → ℕ → AgendaView → AgendaView → World D E S → World D E S → Type 0
+  SetsOffEach holds more met zero a b u v = (b ≡ a) × (v ≡ u)
+  SetsOffEach holds more met (suc n) a b u v =
+      (made : AgendaView) × (w : World D E S) × SetsOffEach holds more false n a made u w
+      × SetsOff (holds (take (suc n) more) met) made b w v
+
+  -- an engine took one step, and its reports were observed, with the failures that they set off
+  pub record Turns (holds : List FinalizationUpdate → Bool → World D E S → Type 0) (reached : Option Reached)
+      (pk : Peer) (birth : ℕ) (event : StepEvent) (a b : AgendaView) (us vs : List FinalizationUpdate)
+      (u v : World D E S) : Type 0 where
+    pub out : StepOut
+    pub given : AgendaView
+    pub mid : World D E S
+    pub gives : Gives pk birth event out a given u mid
+    pub reported : vs ≡ us ++ updates_of pk out.finalized
+    pub set_off : SetsOffEach holds (updates_of pk out.finalized) (is_some reached)
+        (count_setting_off us (updates_of pk out.finalized) reached) given b mid v
+
+  -- the engine that an event is for took a step, where it still runs
+  abbrev pub Tells : (List FinalizationUpdate → Bool → World D E S → Type 0) → Option Reached → Peer
+      → Option ℕ → StepEvent → AgendaView → AgendaView → List FinalizationUpdate → List FinalizationUpdate
+      → World D E S → World D E S → Type 0
+  Tells holds reached pk birth event a b us vs u v =
+      MatchOption (birth_at u.seats.entries pk birth) (Rests a b us vs u v)
+      (λ n. Turns holds reached pk n event a b us vs u v)
+
+  -- an event that is for no engine was handled
+  abbrev pub HandlesOther : Event → AgendaView → AgendaView → List FinalizationUpdate
+      → List FinalizationUpdate → World D E S → World D E S → Type 0
+  HandlesOther event a b us vs u v =
+      (vs ≡ us) × ChangesEngines m.peer_of a b u v × (tally_of v.exercise ≡ tally_after m.crashes event u)
+
+  -- the event of this time and number was handled, and the exit condition was met there, if it was
+  abbrev pub Handles : (List FinalizationUpdate → Bool → World D E S → Type 0) → Option Reached → ℕ × ℕ
+      → Event → AgendaView → AgendaView → List FinalizationUpdate → List FinalizationUpdate → World D E S
+      → World D E S → Type 0
+  Handles holds reached key event a b us vs u v =
+      MatchOption (told_by key event) (HandlesOther event a b us vs u v)
+      (λ t. Tells holds reached t.0 t.1 t.2 a b us vs u v)

@@ -6,6 +6,7 @@ pub mod Exercise
 pub mod Failures
 pub mod Handling
 pub mod Links
+pub mod Meaning
 pub mod Messages
 pub mod Opening
 pub mod Plans

@@ -1,36 +1,19 @@
 -- What a step does to a run, and what a result is worth.
-use Rattle.std.specs.Prelude.{◌≡◌, ◌≤◌, ℕ, Bool, List, ◌∷◌, ◌++◌, Option, None, Result, All, length, map, take}
+use Rattle.std.specs.Prelude.{◌≡◌, ◌≤◌, ℕ, Bool, List, ◌∷◌, ◌++◌, Option, None, All, length, map, take}
 use Rattle.std.specs.BTreeMap.Range.{IsLtBy}
-use Rattle.simulate_parts.specs.Seats.{active_views}
 use Rattle.simulate_parts.specs.Tracker.{tracker_of}
-use Rattle.simulate_parts.specs.TrackerView.{TrackerView}
-use Rattle.simulate_parts.specs.declared.engine.StateView.{StateView}
-use Rattle.simulate_parts.specs.declared.engine.StepEvent.{StepEvent}
-use Rattle.simulate_parts.specs.declared.engine.StepOut.{StepOut}
-use Rattle.simulate_parts.specs.declared.peer.Peer.{Peer}
-use Rattle.simulate_parts.specs.declared.schedule.Crash.{Crash}
-use Rattle.simulate_parts.specs.declared.seats.Seat.{Seat}
 use Rattle.ledger_simulate.specs.Exercise.{unexercised_from}
 use Rattle.ledger_simulate.specs.Handling.{Grows, Handles, Seated}
+use Rattle.ledger_simulate.specs.Meaning.{Meaning}
 use Rattle.ledger_simulate.specs.Plans.{target_count}
 use Rattle.ledger_simulate.specs.Queue.{AgendaView, NumberedBelow, QueueView, empty_agenda, key_cmp, queued_all}
-use Rattle.ledger_simulate.specs.Reaching.{ExitIs, ExitMet}
+use Rattle.ledger_simulate.specs.Reaching.{ExitMet}
 use Rattle.ledger_simulate.specs.Results.{ResultView}
 use Rattle.simulate_parts.specs.declared.tracker.FinalizationUpdate.{FinalizationUpdate}
 use Rattle.ledger_simulate.specs.declared.event.Event.{Event}
 use Rattle.ledger_simulate.specs.declared.exercise.Exercise.{Exercise}
 use Rattle.ledger_simulate.specs.declared.reports.Reached.{Reached}
 use Rattle.ledger_simulate.specs.declared.world.World.{World}
-
--- each check of the states that is asked at a report answers Ok on those of the engines that run
-abbrev pub Sound : {F D E S : Type 0} → (F → List StateView → Option (List ℕ)) → List F → (S → ℕ) → (S → List ℕ) → List (Peer × Seat D E S) → Type 0
-Sound complaint checks height shown seats = All (λ p. complaint p (active_views height shown seats) ≡ None) checks
-
--- what was found after these reports, where the exit condition answered this: each check of the states answers Ok, and
--- the exit condition answers so, for as many participants as count then
-pub record Finds {F C D E S : Type 0} (complaint : F → List StateView → Option (List ℕ)) (checks : List F) (height : S → ℕ) (shown : S → List ℕ) (verdict : C → TrackerView → List StateView → ℕ → Result Bool (List ℕ)) (condition : Option C) (required : ℕ) (participants : List Peer) (crashes : List Crash) (before more : List FinalizationUpdate) (met : Bool) (w : World D E S) : Type 0 where
-  pub sound : Sound complaint checks height shown w.seats.entries
-  pub answers : ExitIs verdict condition required (target_count participants crashes w.exercise.delayed_started) (tracker_of (before ++ more)) (active_views height shown w.seats.entries) met
 
 -- a list that has grown at its end alone
 pub record Extends {X : Type 0} (before after : List X) : Type 0 where
@@ -46,26 +29,6 @@ pub record Advances (entry : (ℕ × ℕ) × Event) (made : List (ℕ × Event))
   pub numbered : NumberedBelow before.next before.entries
   pub then : after ≡ queued_all (record { entries = rest; next = before.next }) entry.0.0 made
 
--- one event was handled, and the run goes on: the event left the queue, those that were made are queued, and
--- the reports and the world are what the handling left
-pub record Proceeds {D E S : Type 0} (peer_of : E → Peer) (journal : Option (E → List (StepEvent × StepOut))) (reports : Option (FinalizationUpdate → Bool)) (height : S → ℕ) (participants : List Peer) (crashes : List Crash) (holds : List FinalizationUpdate → Bool → World D E S → Type 0) (before after : QueueView) (us vs : List FinalizationUpdate) (u v : World D E S) : Type 0 where
-  pub entry : (ℕ × ℕ) × Event
-  pub agenda : AgendaView
-  pub advances : Advances entry agenda.events before after
-  pub handles : Handles peer_of journal reports height participants crashes holds None entry.0 entry.1 (empty_agenda before.next) agenda us vs u v
-  pub seated : Seated peer_of before.next u.seats.entries → Seated peer_of after.next v.seats.entries
-  pub grows : Seated peer_of before.next u.seats.entries → Grows reports us vs
-
--- the exit condition answered true on the result's own tracker and states, of a first part of its reports,
--- every property holds, and each configured failure came to something
-pub record Succeeds {C P : Type 0} (verdict : C → TrackerView → List StateView → ℕ → Result Bool (List ℕ)) (complaint : P → TrackerView → List StateView → Option (List ℕ)) (participants : List Peer) (crashes : List Crash) (condition : Option C) (required : ℕ) (properties : List P) (r : ResultView) : Type 0 where
-  pub met : ExitMet verdict condition required (target_count participants crashes r.delayed_started) r.reached r.states
-  pub count : ℕ
-  pub within : count ≤ length r.updates
-  pub reached : r.reached ≡ tracker_of (take count r.updates)
-  pub held : All (λ p. complaint p (tracker_of r.updates) r.states ≡ None) properties
-  pub exercised : unexercised_from r.crashes r.scheduled_actions r.delayed_started r.entered 0 crashes ≡ None
-
 -- a result shows these reports, what the configured failures came to, where the exit condition was met, and
 -- these numbers
 pub record ResultOf (updates : List FinalizationUpdate) (exercise : Exercise) (reached : Reached) (seed handled max_events : ℕ) (timeout : Option ℕ) (r : ResultView) : Type 0 where
@@ -80,3 +43,27 @@ pub record ResultOf (updates : List FinalizationUpdate) (exercise : Exercise) (r
   pub handled_is : r.handled ≡ handled
   pub limit_is : r.max_events ≡ max_events
   pub timeout_is : r.timeout ≡ timeout
+
+-- what stands below is said of what a plan means
+module _ {D E S F P C : Type 0} (m : Meaning D E S F P C) where
+  -- one event was handled, and the run goes on: the event left the queue, those that were made are queued, and
+  -- the reports and the world are what the handling left
+  pub record Proceeds (holds : List FinalizationUpdate → Bool → World D E S → Type 0)
+      (before after : QueueView) (us vs : List FinalizationUpdate) (u v : World D E S) : Type 0 where
+    pub entry : (ℕ × ℕ) × Event
+    pub agenda : AgendaView
+    pub advances : Advances entry agenda.events before after
+    pub handles : Handles m holds None entry.0 entry.1 (empty_agenda before.next) agenda us vs u v
+    pub seated : Seated m.peer_of before.next u.seats.entries → Seated m.peer_of after.next v.seats.entries
+    pub grows : Seated m.peer_of before.next u.seats.entries → Grows m.reports us vs
+
+  -- the exit condition answered true on the result's own tracker and states, of a first part of its reports,
+  -- every property holds, and each configured failure came to something
+  pub record Succeeds (r : ResultView) : Type 0 where
+    pub met : ExitMet m (target_count m.participants m.crashes r.delayed_started) r.reached r.states
+    pub count : ℕ
+    pub within : count ≤ length r.updates
+    pub reached : r.reached ≡ tracker_of (take count r.updates)
+    pub held : All (λ p. m.objection p (tracker_of r.updates) r.states ≡ None) m.properties
+    pub exercised : unexercised_from r.crashes r.scheduled_actions r.delayed_started r.entered 0 m.crashes
+        ≡ None

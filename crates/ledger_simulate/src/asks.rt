@@ -7,6 +7,7 @@ ghost use Rattle.ledger_simulate.specs.Reaching.{ExitIs};
 ghost use Rattle.ledger_simulate.specs.Stops.{IsExitFault, IsFinalizationFault, IsPropertyFault, stops_late};
 
 use crate::fault::{PlanFault, Stop};
+use crate::meaning::Means;
 use crate::plan::Plan;
 use ledger_codec::{OutOfMemory, Text};
 use simulate_parts::{
@@ -145,8 +146,8 @@ pub fn ask_exit<D: EngineDefinition>(
     states: &[StateView],
     target_count: usize,
 ) -> Result<bool, Stop>
-    ensures ok { IfOk result (ExitIs (λ c. exit_verdict c) plan.now.exit_condition
-        plan.now.required_finalizations target_count tracker.now states.now) }
+    ensures ok { IfOk result
+        (ExitIs (⟦<Plan<D> as Means>⟧.meaning plan.now) target_count tracker.now states.now) }
     ensures fails { IfErr result (IsFailure (λ c. exit_name c) (λ c. exit_verdict c) plan.now.exit_condition
         tracker.now states.now target_count) }
     ensures asked { IfErr result (λ s. IsTrue (stops_asked s)) }

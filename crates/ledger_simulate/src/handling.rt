@@ -4,19 +4,20 @@ ghost use Rattle.simulate_parts.specs.Engine.{updates_of};
 ghost use Rattle.simulate_parts.specs.Seats.{active_views, runs};
 ghost use Rattle.simulate_parts.specs.Tracker.{tracker_of};
 ghost use Rattle.simulate_parts.specs.declared.engine.StepOut.{StepOut};
-ghost use Rattle.ledger_simulate.specs.Answering.{Asked, Asks, MetOn, ReportsThen, SeesAfter, SkipsAfter, StopAnswered};
-ghost use Rattle.ledger_simulate.specs.Causes.{StopComes, stops_asked};
+ghost use Rattle.ledger_simulate.specs.Answering.{AnsweredIn, Asked, ComesIn, MetOn, SeesAfter, StopAnswered};
+ghost use Rattle.ledger_simulate.specs.Causes.{stops_asked};
 ghost use Rattle.ledger_simulate.specs.Delays.{started_by};
 ghost use Rattle.ledger_simulate.specs.Handling.{Gives, Handles, ChangesEngines, Tells, birth_at, is_poll, told_by};
 ghost use Rattle.ledger_simulate.specs.Plans.{target_count};
-ghost use Rattle.ledger_simulate.specs.Reaching.{ExitIs, IsReached};
-ghost use Rattle.ledger_simulate.specs.Runs.{Extends, Finds};
+ghost use Rattle.ledger_simulate.specs.Reaching.{ExitIs, Finds, IsReached};
+ghost use Rattle.ledger_simulate.specs.Runs.{Extends};
 ghost use Rattle.ledger_simulate.specs.Stops.{stops_late};
 ghost use Rattle.ledger_simulate.specs.declared.event.Event.TheVariants.{ExitPoll};
 
 use crate::agenda::Agenda;
 use crate::event::Event;
 use crate::fault::Stop;
+use crate::meaning::Means;
 use crate::messages::{send_all, set_timers};
 use crate::opening::EXIT_POLL;
 use crate::plan::Plan;
@@ -39,16 +40,13 @@ pub fn handle<D: EngineDefinition>(
     event: Event,
 ) -> Result<Option<Reached>, Stop>
     ensures handled { IfOk result (λ o.
-        Handles (D.peer_of plan.now.engine) (D.journal plan.now.engine) (D.reports plan.now.engine)
-        D.State.height_of plan.now.participants plan.now.crashes
-        (Finds (λ p. finalization_complaint p) plan.now.finalization_property D.State.height_of
-        D.State.bytes_of (λ c. exit_verdict c) plan.now.exit_condition
-        plan.now.required_finalizations plan.now.participants plan.now.crashes watch.old)
+        Handles (⟦<Plan<D> as Means>⟧.meaning plan.now)
+        (Finds (⟦<Plan<D> as Means>⟧.meaning plan.now) watch.old)
         o key event agenda.old agenda.new watch.old watch.new world.old world.new) }
     ensures updates { OnOk result (Extends watch.old watch.new) }
     ensures reached { IfOk result (λ o.
         IfSome o (λ r.
-        IsReached (λ c. exit_verdict c) plan.now.exit_condition plan.now.required_finalizations
+        IsReached (⟦<Plan<D> as Means>⟧.meaning plan.now)
         (target_count plan.now.participants plan.now.crashes world.new.exercise.delayed_started)
         watch.new r)) }
     ensures started { IfOk result (λ o.
@@ -57,45 +55,22 @@ pub fn handle<D: EngineDefinition>(
         (drop (length watch.old) watch.new) o) }
     ensures seen { IfOk result (λ o.
         IfSome o (MetOn
-        (Asked (D.peer_of plan.now.engine) (D.journal plan.now.engine) (D.reports plan.now.engine)
-        D.State.height_of D.State.bytes_of plan.now.participants plan.now.crashes
-        (Finds (λ p. finalization_complaint p) plan.now.finalization_property D.State.height_of
-        D.State.bytes_of (λ c. exit_verdict c) plan.now.exit_condition
-        plan.now.required_finalizations plan.now.participants plan.now.crashes watch.old)
+        (Asked (⟦<Plan<D> as Means>⟧.meaning plan.now)
+        (Finds (⟦<Plan<D> as Means>⟧.meaning plan.now) watch.old)
         (told_by key event) (is_poll event) agenda.old world.old)
         watch.old)) }
     ensures answers { IfOk result (λ o.
         IsTrue (is_poll event) →
-        ExitIs (λ c. exit_verdict c) plan.now.exit_condition plan.now.required_finalizations
+        ExitIs (⟦<Plan<D> as Means>⟧.meaning plan.now)
         (target_count plan.now.participants plan.now.crashes world.old.exercise.delayed_started)
         (tracker_of watch.old) (active_views D.State.height_of D.State.bytes_of world.old.seats.entries)
         (is_some o)) }
-    ensures comes { IfErr result (StopComes
-        (ReportsThen (D.peer_of plan.now.engine) (D.journal plan.now.engine) (D.reports plan.now.engine)
-        (told_by key event) agenda.old world.old)
-        (SkipsAfter (D.peer_of plan.now.engine) (D.journal plan.now.engine) (D.reports plan.now.engine)
-        D.State.height_of plan.now.participants plan.now.crashes
-        (Finds (λ p. finalization_complaint p) plan.now.finalization_property D.State.height_of
-        D.State.bytes_of (λ c. exit_verdict c) plan.now.exit_condition
-        plan.now.required_finalizations plan.now.participants plan.now.crashes watch.old)
-        (told_by key event) agenda.old world.old)
-        watch.old) }
-    ensures answered { IfErr result (StopAnswered (λ p. finalization_name p) (λ p. finalization_complaint p)
-        (λ p. property_name p) (λ p. property_complaint p) (λ c. exit_name c) (λ c. exit_verdict c)
-        plan.now.finalization_property plan.now.property plan.now.exit_condition
-        (SeesAfter (D.peer_of plan.now.engine) (D.journal plan.now.engine) (D.reports plan.now.engine)
-        D.State.height_of D.State.bytes_of plan.now.participants plan.now.crashes
-        (Finds (λ p. finalization_complaint p) plan.now.finalization_property D.State.height_of
-        D.State.bytes_of (λ c. exit_verdict c) plan.now.exit_condition
-        plan.now.required_finalizations plan.now.participants plan.now.crashes watch.old)
-        (told_by key event) agenda.old world.old)
-        (Asks (D.peer_of plan.now.engine) (D.journal plan.now.engine) (D.reports plan.now.engine)
-        D.State.height_of D.State.bytes_of plan.now.participants plan.now.crashes
-        (Finds (λ p. finalization_complaint p) plan.now.finalization_property D.State.height_of
-        D.State.bytes_of (λ c. exit_verdict c) plan.now.exit_condition
-        plan.now.required_finalizations plan.now.participants plan.now.crashes watch.old)
-        (told_by key event) (is_poll event) watch.old agenda.old world.old)
-        (λ more states. ⊥) watch.old) }
+    ensures comes { IfErr result
+        (ComesIn (⟦<Plan<D> as Means>⟧.meaning plan.now) (told_by key event) agenda.old watch.old
+        world.old) }
+    ensures answered { IfErr result
+        (AnsweredIn (⟦<Plan<D> as Means>⟧.meaning plan.now) (told_by key event) (is_poll event) agenda.old
+        watch.old world.old) }
     ensures late { IfErr result (λ s. IsTrue (stops_late s)) }
 {
     match event {
@@ -205,7 +180,7 @@ fn poll<D: EngineDefinition>(
         (ChangesEngines (D.peer_of plan.now.engine) agenda.old agenda.new world.now world.now) }
     ensures reached { IfOk result (λ o.
         IfSome o (λ r.
-        IsReached (λ c. exit_verdict c) plan.now.exit_condition plan.now.required_finalizations
+        IsReached (⟦<Plan<D> as Means>⟧.meaning plan.now)
         (target_count plan.now.participants plan.now.crashes world.now.exercise.delayed_started)
         watch.now r)) }
     ensures seen { IfOk result (λ o.
@@ -213,14 +188,12 @@ fn poll<D: EngineDefinition>(
         (r.count ≡ length watch.now)
         × (r.states.items ≡ active_views D.State.height_of D.State.bytes_of world.now.seats.entries))) }
     ensures answers { IfOk result (λ o.
-        ExitIs (λ c. exit_verdict c) plan.now.exit_condition plan.now.required_finalizations
+        ExitIs (⟦<Plan<D> as Means>⟧.meaning plan.now)
         (target_count plan.now.participants plan.now.crashes world.now.exercise.delayed_started)
         (tracker_of watch.now) (active_views D.State.height_of D.State.bytes_of world.now.seats.entries)
         (is_some o)) }
     ensures asked { IfErr result (λ s. IsTrue (stops_asked s)) }
-    ensures answered { IfErr result (StopAnswered (λ p. finalization_name p) (λ p. finalization_complaint p)
-        (λ p. property_name p) (λ p. property_complaint p) (λ c. exit_name c) (λ c. exit_verdict c)
-        plan.now.finalization_property plan.now.property plan.now.exit_condition (λ more states. ⊥)
+    ensures answered { IfErr result (StopAnswered (⟦<Plan<D> as Means>⟧.meaning plan.now) (λ more states. ⊥)
         (λ more states target.
         (more ≡ [])
         × (states ≡ active_views D.State.height_of D.State.bytes_of world.now.seats.entries)
@@ -274,16 +247,13 @@ fn step_at<D: EngineDefinition>(
     told: Told,
 ) -> Result<Option<Reached>, Stop>
     ensures told { IfOk result (λ o.
-        Tells (D.peer_of plan.now.engine) (D.journal plan.now.engine) (D.reports plan.now.engine)
-        D.State.height_of plan.now.participants plan.now.crashes
-        (Finds (λ p. finalization_complaint p) plan.now.finalization_property D.State.height_of
-        D.State.bytes_of (λ c. exit_verdict c) plan.now.exit_condition
-        plan.now.required_finalizations plan.now.participants plan.now.crashes watch.old)
+        Tells (⟦<Plan<D> as Means>⟧.meaning plan.now)
+        (Finds (⟦<Plan<D> as Means>⟧.meaning plan.now) watch.old)
         o told.pk told.birth told.event agenda.old agenda.new watch.old watch.new world.old world.new) }
     ensures updates { OnOk result (Extends watch.old watch.new) }
     ensures reached { IfOk result (λ o.
         IfSome o (λ r.
-        IsReached (λ c. exit_verdict c) plan.now.exit_condition plan.now.required_finalizations
+        IsReached (⟦<Plan<D> as Means>⟧.meaning plan.now)
         (target_count plan.now.participants plan.now.crashes world.new.exercise.delayed_started)
         watch.new r)) }
     ensures started { IfOk result (λ o.
@@ -292,39 +262,16 @@ fn step_at<D: EngineDefinition>(
         (drop (length watch.old) watch.new) o) }
     ensures seen { IfOk result (λ o.
         IfSome o (MetOn
-        (SeesAfter (D.peer_of plan.now.engine) (D.journal plan.now.engine) (D.reports plan.now.engine)
-        D.State.height_of D.State.bytes_of plan.now.participants plan.now.crashes
-        (Finds (λ p. finalization_complaint p) plan.now.finalization_property D.State.height_of
-        D.State.bytes_of (λ c. exit_verdict c) plan.now.exit_condition
-        plan.now.required_finalizations plan.now.participants plan.now.crashes watch.old)
+        (SeesAfter (⟦<Plan<D> as Means>⟧.meaning plan.now)
+        (Finds (⟦<Plan<D> as Means>⟧.meaning plan.now) watch.old)
         (Some (told.pk, told.birth, told.event)) agenda.old world.old)
         watch.old)) }
-    ensures comes { IfErr result (StopComes
-        (ReportsThen (D.peer_of plan.now.engine) (D.journal plan.now.engine) (D.reports plan.now.engine)
-        (Some (told.pk, told.birth, told.event)) agenda.old world.old)
-        (SkipsAfter (D.peer_of plan.now.engine) (D.journal plan.now.engine) (D.reports plan.now.engine)
-        D.State.height_of plan.now.participants plan.now.crashes
-        (Finds (λ p. finalization_complaint p) plan.now.finalization_property D.State.height_of
-        D.State.bytes_of (λ c. exit_verdict c) plan.now.exit_condition
-        plan.now.required_finalizations plan.now.participants plan.now.crashes watch.old)
-        (Some (told.pk, told.birth, told.event)) agenda.old world.old)
-        watch.old) }
-    ensures answered { IfErr result (StopAnswered (λ p. finalization_name p) (λ p. finalization_complaint p)
-        (λ p. property_name p) (λ p. property_complaint p) (λ c. exit_name c) (λ c. exit_verdict c)
-        plan.now.finalization_property plan.now.property plan.now.exit_condition
-        (SeesAfter (D.peer_of plan.now.engine) (D.journal plan.now.engine) (D.reports plan.now.engine)
-        D.State.height_of D.State.bytes_of plan.now.participants plan.now.crashes
-        (Finds (λ p. finalization_complaint p) plan.now.finalization_property D.State.height_of
-        D.State.bytes_of (λ c. exit_verdict c) plan.now.exit_condition
-        plan.now.required_finalizations plan.now.participants plan.now.crashes watch.old)
-        (Some (told.pk, told.birth, told.event)) agenda.old world.old)
-        (Asks (D.peer_of plan.now.engine) (D.journal plan.now.engine) (D.reports plan.now.engine)
-        D.State.height_of D.State.bytes_of plan.now.participants plan.now.crashes
-        (Finds (λ p. finalization_complaint p) plan.now.finalization_property D.State.height_of
-        D.State.bytes_of (λ c. exit_verdict c) plan.now.exit_condition
-        plan.now.required_finalizations plan.now.participants plan.now.crashes watch.old)
-        (Some (told.pk, told.birth, told.event)) false watch.old agenda.old world.old)
-        (λ more states. ⊥) watch.old) }
+    ensures comes { IfErr result
+        (ComesIn (⟦<Plan<D> as Means>⟧.meaning plan.now) (Some (told.pk, told.birth, told.event))
+        agenda.old watch.old world.old) }
+    ensures answered { IfErr result
+        (AnsweredIn (⟦<Plan<D> as Means>⟧.meaning plan.now) (Some (told.pk, told.birth, told.event))
+        false agenda.old watch.old world.old) }
     ensures late { IfErr result (λ s. IsTrue (stops_late s)) }
 {
     let Told { pk, birth, event } = told;
@@ -349,7 +296,7 @@ fn step_and_send<D: EngineDefinition>(
     requires { IsTrue (runs world.old.seats.entries pk) }
     ensures { IfOk result (λ updates.
         (out : StepOut)
-        × Gives (D.peer_of plan.now.engine) (D.journal plan.now.engine) (D.reports plan.now.engine) pk birth
+        × Gives (⟦<Plan<D> as Means>⟧.meaning plan.now) pk birth
         event out agenda.old agenda.new world.old world.new
         × (updates.items ≡ updates_of pk out.finalized)) }
 {

@@ -19,6 +19,7 @@ mod exercise;
 mod fault;
 mod handling;
 mod links;
+mod meaning;
 mod messages;
 mod opening;
 mod plan;

@@ -9,13 +9,13 @@ ghost use Rattle.ledger_simulate.specs.Delays.{started_by, starts, target_at};
 ghost use Rattle.ledger_simulate.specs.Failures.{first_passed, standing_of, views_checked};
 ghost use Rattle.ledger_simulate.specs.Handling.{ChangesEnginesAlone, SetsOff, SetsOffEach, count_setting_off};
 ghost use Rattle.ledger_simulate.specs.Plans.{target_count};
-ghost use Rattle.ledger_simulate.specs.Reaching.{ExitIs, IsReached};
-ghost use Rattle.ledger_simulate.specs.Runs.{Finds, Sound};
+ghost use Rattle.ledger_simulate.specs.Reaching.{ExitIs, Finds, IsReached, Sound};
 ghost use Rattle.ledger_simulate.specs.Stops.{stops_late};
 
 use crate::agenda::Agenda;
 use crate::asks::{ask_exit, check_finalizations};
 use crate::fault::Stop;
+use crate::meaning::Means;
 use crate::plan::Plan;
 use crate::watch::Watch;
 use crate::world::World;
@@ -64,11 +64,11 @@ pub fn ask<D: EngineDefinition>(
 ) -> Result<Option<Reached>, Stop>
     ensures reached { IfOk result (λ o.
         IfSome o (λ r.
-        IsReached (λ c. exit_verdict c) plan.now.exit_condition plan.now.required_finalizations
+        IsReached (⟦<Plan<D> as Means>⟧.meaning plan.now)
         (target_count plan.now.participants plan.now.crashes world.now.exercise.delayed_started)
         watch.now r)) }
     ensures answers { IfOk result (λ o.
-        ExitIs (λ c. exit_verdict c) plan.now.exit_condition plan.now.required_finalizations
+        ExitIs (⟦<Plan<D> as Means>⟧.meaning plan.now)
         (target_count plan.now.participants plan.now.crashes world.now.exercise.delayed_started)
         (tracker_of watch.now) states.items (is_some o)) }
     ensures count { IfOk result (λ o. IfSome o (λ r. r.count ≡ length watch.now)) }
@@ -112,16 +112,14 @@ fn take_report<D: EngineDefinition>(
     ensures changes_alone { OnOk result
         (ChangesEnginesAlone (D.peer_of plan.now.engine) agenda.old agenda.new world.old world.new) }
     ensures sets_off { IfOk result (λ o.
-        SetsOff (D.peer_of plan.now.engine) D.State.height_of plan.now.participants plan.now.crashes
-        (Finds (λ p. finalization_complaint p) plan.now.finalization_property D.State.height_of
-        D.State.bytes_of (λ c. exit_verdict c) plan.now.exit_condition
-        plan.now.required_finalizations plan.now.participants plan.now.crashes watch.old
+        SetsOff (⟦<Plan<D> as Means>⟧.meaning plan.now)
+        (Finds (⟦<Plan<D> as Means>⟧.meaning plan.now) watch.old
         (update ∷ []) (is_some o))
         agenda.old agenda.new world.old world.new) }
     ensures updates { OnOk result (watch.new ≡ watch.old ++ update ∷ []) }
     ensures reached { IfOk result (λ o.
         IfSome o (λ r.
-        IsReached (λ c. exit_verdict c) plan.now.exit_condition plan.now.required_finalizations
+        IsReached (⟦<Plan<D> as Means>⟧.meaning plan.now)
         (target_count plan.now.participants plan.now.crashes world.new.exercise.delayed_started)
         watch.new r)) }
     ensures started { IfOk result (λ o.
@@ -135,17 +133,14 @@ fn take_report<D: EngineDefinition>(
         × (r.count ≡ length watch.new))) }
     ensures sound { IfOk result (λ o.
         IfSome o (λ r.
-        Sound (λ p. finalization_complaint p) plan.now.finalization_property D.State.height_of
-        D.State.bytes_of world.new.seats.entries)) }
+        Sound (⟦<Plan<D> as Means>⟧.meaning plan.now) world.new.seats.entries)) }
     ensures states { IfOk result (λ o.
         IfSome o (λ r.
         r.states.items ≡ views_checked D.State.height_of D.State.bytes_of plan.now.crashes world.old)) }
     ensures comes { IfErr result (StopComes (λ more u. (more ≡ []) × (u ≡ update))
         (λ h. first_passed D.State.height_of 0 plan.now.crashes (standing_of world.old) ≡ Some h)
         watch.old) }
-    ensures answered { IfErr result (StopAnswered (λ p. finalization_name p) (λ p. finalization_complaint p)
-        (λ p. property_name p) (λ p. property_complaint p) (λ c. exit_name c) (λ c. exit_verdict c)
-        plan.now.finalization_property plan.now.property plan.now.exit_condition
+    ensures answered { IfErr result (StopAnswered (⟦<Plan<D> as Means>⟧.meaning plan.now)
         (λ more states.
         (more ≡ update ∷ [])
         × (states ≡ views_checked D.State.height_of D.State.bytes_of plan.now.crashes world.old))
@@ -180,8 +175,7 @@ fn check_now<D: EngineDefinition>(plan: &Plan<D>, world: &World<D>) -> Result<Ve
     ensures views { IfOk result
         (λ states. states.items ≡ active_views D.State.height_of D.State.bytes_of world.now.seats.entries) }
     ensures asked { IfErr result (λ s. IsTrue (stops_asked s)) }
-    ensures sound { OnOk result (Sound (λ p. finalization_complaint p) plan.now.finalization_property
-        D.State.height_of D.State.bytes_of world.now.seats.entries) }
+    ensures sound { OnOk result (Sound (⟦<Plan<D> as Means>⟧.meaning plan.now) world.now.seats.entries) }
     ensures complains { IfErr result (IsComplaint (λ p. finalization_name p) (λ p. finalization_complaint p)
         plan.now.finalization_property
         (active_views D.State.height_of D.State.bytes_of world.now.seats.entries)) }
@@ -209,24 +203,21 @@ fn check_and_ask<D: EngineDefinition>(
 ) -> Result<Option<Reached>, Stop>
     ensures reached { IfOk result (λ o.
         IfSome o (λ r.
-        IsReached (λ c. exit_verdict c) plan.now.exit_condition plan.now.required_finalizations
+        IsReached (⟦<Plan<D> as Means>⟧.meaning plan.now)
         (target_count plan.now.participants plan.now.crashes world.now.exercise.delayed_started)
         watch.now r)) }
     ensures answers { IfOk result (λ o.
-        ExitIs (λ c. exit_verdict c) plan.now.exit_condition plan.now.required_finalizations
+        ExitIs (⟦<Plan<D> as Means>⟧.meaning plan.now)
         (target_count plan.now.participants plan.now.crashes world.now.exercise.delayed_started)
         (tracker_of watch.now) (active_views D.State.height_of D.State.bytes_of world.now.seats.entries)
         (is_some o)) }
     ensures count { IfOk result (λ o. IfSome o (λ r. r.count ≡ length watch.now)) }
-    ensures sound { OnOk result (Sound (λ p. finalization_complaint p) plan.now.finalization_property
-        D.State.height_of D.State.bytes_of world.now.seats.entries) }
+    ensures sound { OnOk result (Sound (⟦<Plan<D> as Means>⟧.meaning plan.now) world.now.seats.entries) }
     ensures states { IfOk result (λ o.
         IfSome o (λ r.
         r.states.items ≡ active_views D.State.height_of D.State.bytes_of world.now.seats.entries)) }
     ensures asked { IfErr result (λ s. IsTrue (stops_asked s)) }
-    ensures answered { IfErr result (StopAnswered (λ p. finalization_name p) (λ p. finalization_complaint p)
-        (λ p. property_name p) (λ p. property_complaint p) (λ c. exit_name c) (λ c. exit_verdict c)
-        plan.now.finalization_property plan.now.property plan.now.exit_condition
+    ensures answered { IfErr result (StopAnswered (⟦<Plan<D> as Means>⟧.meaning plan.now)
         (λ more states.
         (more ≡ [])
         × (states ≡ active_views D.State.height_of D.State.bytes_of world.now.seats.entries))
@@ -253,9 +244,7 @@ fn drain_report<D: EngineDefinition>(
 ) -> Result<(), Stop>
     ensures updates { OnOk result (watch.new ≡ watch.old ++ update ∷ []) }
     ensures comes { IfErr result (StopComes (λ more u. (more ≡ []) × (u ≡ update)) (λ h. ⊥) watch.old) }
-    ensures answered { IfErr result (StopAnswered (λ p. finalization_name p) (λ p. finalization_complaint p)
-        (λ p. property_name p) (λ p. property_complaint p) (λ c. exit_name c) (λ c. exit_verdict c)
-        plan.now.finalization_property plan.now.property plan.now.exit_condition
+    ensures answered { IfErr result (StopAnswered (⟦<Plan<D> as Means>⟧.meaning plan.now)
         (λ more states.
         (more ≡ update ∷ [])
         × (states ≡ active_views D.State.height_of D.State.bytes_of world.now.seats.entries))
@@ -283,27 +272,24 @@ fn next_report<D: EngineDefinition>(
     update: FinalizationUpdate,
 ) -> Result<Option<Reached>, Stop>
     requires reached { IfSome reached (λ r.
-        IsReached (λ c. exit_verdict c) plan.now.exit_condition plan.now.required_finalizations
+        IsReached (⟦<Plan<D> as Means>⟧.meaning plan.now)
         (target_count plan.now.participants plan.now.crashes world.old.exercise.delayed_started)
         watch.old r) }
     requires sound { IfSome reached (λ r.
-        Sound (λ p. finalization_complaint p) plan.now.finalization_property D.State.height_of
-        D.State.bytes_of world.old.seats.entries) }
+        Sound (⟦<Plan<D> as Means>⟧.meaning plan.now) world.old.seats.entries) }
     ensures changes_alone { OnOk result
         (ChangesEnginesAlone (D.peer_of plan.now.engine) agenda.old agenda.new world.old world.new) }
     ensures sets_off { IfOk result (λ o.
         MatchOption reached
-        (SetsOff (D.peer_of plan.now.engine) D.State.height_of plan.now.participants plan.now.crashes
-        (Finds (λ p. finalization_complaint p) plan.now.finalization_property D.State.height_of
-        D.State.bytes_of (λ c. exit_verdict c) plan.now.exit_condition
-        plan.now.required_finalizations plan.now.participants plan.now.crashes watch.old
+        (SetsOff (⟦<Plan<D> as Means>⟧.meaning plan.now)
+        (Finds (⟦<Plan<D> as Means>⟧.meaning plan.now) watch.old
         (update ∷ []) (is_some o))
         agenda.old agenda.new world.old world.new)
         (λ q. (agenda.new ≡ agenda.old) × (world.new ≡ world.old))) }
     ensures updates { OnOk result (watch.new ≡ watch.old ++ update ∷ []) }
     ensures reached { IfOk result (λ o.
         IfSome o (λ r.
-        IsReached (λ c. exit_verdict c) plan.now.exit_condition plan.now.required_finalizations
+        IsReached (⟦<Plan<D> as Means>⟧.meaning plan.now)
         (target_count plan.now.participants plan.now.crashes world.new.exercise.delayed_started)
         watch.new r)) }
     ensures started { IfOk result (λ o.
@@ -318,8 +304,7 @@ fn next_report<D: EngineDefinition>(
         × MatchOption reached (r.count ≡ length watch.new) (λ q. r.count ≡ q.count))) }
     ensures sound { IfOk result (λ o.
         IfSome o (λ r.
-        Sound (λ p. finalization_complaint p) plan.now.finalization_property D.State.height_of
-        D.State.bytes_of world.new.seats.entries)) }
+        Sound (⟦<Plan<D> as Means>⟧.meaning plan.now) world.new.seats.entries)) }
     ensures states { IfOk result (λ o.
         IfSome o (λ r.
         MatchOption reached
@@ -331,9 +316,7 @@ fn next_report<D: EngineDefinition>(
         (reached ≡ None)
         × (first_passed D.State.height_of 0 plan.now.crashes (standing_of world.old) ≡ Some h))
         watch.old) }
-    ensures answered { IfErr result (StopAnswered (λ p. finalization_name p) (λ p. finalization_complaint p)
-        (λ p. property_name p) (λ p. property_complaint p) (λ c. exit_name c) (λ c. exit_verdict c)
-        plan.now.finalization_property plan.now.property plan.now.exit_condition
+    ensures answered { IfErr result (StopAnswered (⟦<Plan<D> as Means>⟧.meaning plan.now)
         (λ more states.
         (reached ≡ None)
         × (more ≡ update ∷ [])
@@ -368,16 +351,14 @@ pub fn take_reports<D: EngineDefinition>(
     ensures changes_alone { OnOk result
         (ChangesEnginesAlone (D.peer_of plan.now.engine) agenda.old agenda.new world.old world.new) }
     ensures set_off { IfOk result (λ o.
-        SetsOffEach (D.peer_of plan.now.engine) D.State.height_of plan.now.participants plan.now.crashes
-        (Finds (λ p. finalization_complaint p) plan.now.finalization_property D.State.height_of
-        D.State.bytes_of (λ c. exit_verdict c) plan.now.exit_condition
-        plan.now.required_finalizations plan.now.participants plan.now.crashes watch.old)
+        SetsOffEach (⟦<Plan<D> as Means>⟧.meaning plan.now)
+        (Finds (⟦<Plan<D> as Means>⟧.meaning plan.now) watch.old)
         updates.items (is_some o) (count_setting_off watch.old updates.items o) agenda.old agenda.new
         world.old world.new) }
     ensures updates { OnOk result (watch.new ≡ watch.old ++ updates.items) }
     ensures reached { IfOk result (λ o.
         IfSome o (λ r.
-        IsReached (λ c. exit_verdict c) plan.now.exit_condition plan.now.required_finalizations
+        IsReached (⟦<Plan<D> as Means>⟧.meaning plan.now)
         (target_count plan.now.participants plan.now.crashes world.new.exercise.delayed_started)
         watch.new r)) }
     ensures started { IfOk result (λ o.
@@ -386,35 +367,22 @@ pub fn take_reports<D: EngineDefinition>(
         updates.items o) }
     ensures seen { IfOk result (λ o.
         IfSome o (MetOn
-        (Sees (D.peer_of plan.now.engine) D.State.height_of D.State.bytes_of plan.now.participants
-        plan.now.crashes
-        (Finds (λ p. finalization_complaint p) plan.now.finalization_property D.State.height_of
-        D.State.bytes_of (λ c. exit_verdict c) plan.now.exit_condition
-        plan.now.required_finalizations plan.now.participants plan.now.crashes watch.old)
+        (Sees (⟦<Plan<D> as Means>⟧.meaning plan.now)
+        (Finds (⟦<Plan<D> as Means>⟧.meaning plan.now) watch.old)
         agenda.old world.old updates.items)
         watch.old)) }
     ensures comes { IfErr result (StopComes (λ more u. (rest : _) × (updates.items ≡ more ++ u ∷ rest))
-        (SkipsAmong (D.peer_of plan.now.engine) D.State.height_of plan.now.participants plan.now.crashes
-        (Finds (λ p. finalization_complaint p) plan.now.finalization_property D.State.height_of
-        D.State.bytes_of (λ c. exit_verdict c) plan.now.exit_condition
-        plan.now.required_finalizations plan.now.participants plan.now.crashes watch.old)
+        (SkipsAmong (⟦<Plan<D> as Means>⟧.meaning plan.now)
+        (Finds (⟦<Plan<D> as Means>⟧.meaning plan.now) watch.old)
         updates.items agenda.old world.old)
         watch.old) }
-    ensures answered { IfErr result (StopAnswered (λ p. finalization_name p) (λ p. finalization_complaint p)
-        (λ p. property_name p) (λ p. property_complaint p) (λ c. exit_name c) (λ c. exit_verdict c)
-        plan.now.finalization_property plan.now.property plan.now.exit_condition
-        (Sees (D.peer_of plan.now.engine) D.State.height_of D.State.bytes_of plan.now.participants
-        plan.now.crashes
-        (Finds (λ p. finalization_complaint p) plan.now.finalization_property D.State.height_of
-        D.State.bytes_of (λ c. exit_verdict c) plan.now.exit_condition
-        plan.now.required_finalizations plan.now.participants plan.now.crashes watch.old)
+    ensures answered { IfErr result (StopAnswered (⟦<Plan<D> as Means>⟧.meaning plan.now)
+        (Sees (⟦<Plan<D> as Means>⟧.meaning plan.now)
+        (Finds (⟦<Plan<D> as Means>⟧.meaning plan.now) watch.old)
         agenda.old world.old updates.items)
         (λ more states target.
-        Sees (D.peer_of plan.now.engine) D.State.height_of D.State.bytes_of plan.now.participants
-        plan.now.crashes
-        (Finds (λ p. finalization_complaint p) plan.now.finalization_property D.State.height_of
-        D.State.bytes_of (λ c. exit_verdict c) plan.now.exit_condition
-        plan.now.required_finalizations plan.now.participants plan.now.crashes watch.old)
+        Sees (⟦<Plan<D> as Means>⟧.meaning plan.now)
+        (Finds (⟦<Plan<D> as Means>⟧.meaning plan.now) watch.old)
         agenda.old world.old updates.items more states
         × (target
         ≡ target_at plan.now.participants plan.now.crashes watch.old

@@ -11,6 +11,7 @@ mod stepping;
 
 use crate::agenda::Agenda;
 use crate::fault::PlanFault;
+use crate::meaning::Means;
 use crate::opening::open;
 use crate::plan::Plan;
 use crate::queue::Queue;
@@ -216,32 +217,7 @@ impl<'a, D: EngineDefinition> Simulation<'a, D> {
     /// A run of the plan before its first event.
     pub fn new(alloc: Global, plan: &'a Plan<D>, seed: u64) -> Result<Self, OutOfMemory>
         requires { Runs plan.now.participants plan.now.crashes }
-        ensures opens { IfOk result (λ s. Opens (record {
-          engine = plan.now.engine;
-          peer_of = D.peer_of plan.now.engine;
-          journal = D.journal plan.now.engine;
-          reports = D.reports plan.now.engine;
-          channels = D.carried_on plan.now.engine;
-          max_size = D.carried_size plan.now.engine;
-          height = D.State.height_of;
-          shown = D.State.bytes_of;
-          participants = plan.now.participants;
-          crashes = plan.now.crashes;
-          link = plan.now.link;
-          checks = plan.now.finalization_property;
-          check_name = λ p. finalization_name p;
-          complaint = λ p. finalization_complaint p;
-          properties = plan.now.property;
-          property_name = λ p. property_name p;
-          objection = λ p. property_complaint p;
-          condition = plan.now.exit_condition;
-          condition_name = λ c. exit_name c;
-          polls = λ c. exit_polls c;
-          verdict = λ c. exit_verdict c;
-          required = plan.now.required_finalizations;
-          max_events = plan.now.max_events;
-          timeout = plan.now.timeout;
-        })
+        ensures opens { IfOk result (λ s. Opens (⟦<Plan<D> as Means>⟧.meaning plan.now)
             seed (course_of s)) }
         ensures plan { IfOk result (λ s. s.plan ≡ plan.entry) }
     {

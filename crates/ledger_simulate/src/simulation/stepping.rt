@@ -2,24 +2,25 @@
 ghost use Rattle.std.specs.Prelude.{◌≡◌, ◌<◌, ◌+◌, ◌++◌, ℕ, Err, IsTrue, None, Ok, Some, drop, false, length, take};
 ghost use Rattle.simulate_parts.specs.Seats.{active_views};
 ghost use Rattle.simulate_parts.specs.Tracker.{tracker_of};
-ghost use Rattle.ledger_simulate.specs.Answering.{Answered, Asks, Ends, EndsAt, MissesAt, ReportsThen, SeesAfter, SkipsAfter};
-ghost use Rattle.ledger_simulate.specs.Causes.{Comes, EndComes};
+ghost use Rattle.ledger_simulate.specs.Answering.{Answered, EndsAt};
+ghost use Rattle.ledger_simulate.specs.Causes.{EndComes};
 ghost use Rattle.ledger_simulate.specs.Delays.{started_after, started_where};
 ghost use Rattle.ledger_simulate.specs.Exercise.{missed_by};
 ghost use Rattle.ledger_simulate.specs.Failures.{tally_of};
-ghost use Rattle.ledger_simulate.specs.Handling.{Grows, Seated, polls_first, told_first};
+ghost use Rattle.ledger_simulate.specs.Handling.{Grows, Seated, polls_first};
 ghost use Rattle.ledger_simulate.specs.Plans.{target_count};
-ghost use Rattle.ledger_simulate.specs.Queue.{empty_agenda, first_key, queued_all};
-ghost use Rattle.ledger_simulate.specs.Reaching.{ExitIs, IsReached};
+ghost use Rattle.ledger_simulate.specs.Queue.{first_key, queued_all};
+ghost use Rattle.ledger_simulate.specs.Reaching.{ExitIs, Finds, IsReached};
 ghost use Rattle.ledger_simulate.specs.Results.{EndedView, ResultView, tally_shown};
-ghost use Rattle.ledger_simulate.specs.Runs.{Extends, Finds, Proceeds, ResultOf, Succeeds};
-ghost use Rattle.ledger_simulate.specs.Stepping.{Fails, Finishes, GoesOn, course_of};
+ghost use Rattle.ledger_simulate.specs.Runs.{Extends, Proceeds, ResultOf, Succeeds};
+ghost use Rattle.ledger_simulate.specs.Stepping.{AnsweredAt, ComesAt, Fails, Finishes, GoesOn, MeetsEnd, course_of};
 ghost use Rattle.ledger_simulate.specs.Stops.{early_fault, end_of, is_late};
 
 use crate::agenda::Agenda;
 use crate::asks::check_properties;
 use crate::fault::{PlanFault, Stop};
 use crate::handling::handle;
+use crate::meaning::Means;
 use crate::plan::Plan;
 use crate::reports::Reached;
 use crate::simulation::{Ended, PlanResult, SimEnd, Simulation, Stepped};
@@ -33,87 +34,17 @@ impl<'a, D: EngineDefinition> Simulation<'a, D> {
     /// were handled as the plan allows, and where the first event is due after the timeout; and then by what
     /// the event brings. A refused call gives the run up.
     pub fn step(self) -> Result<Stepped<'a, D>, SimEnd>
-        ensures on { (next : _) → result ≡ Ok (Stepped.On next) → GoesOn (record {
-          engine = self.entry.plan.now.engine;
-          peer_of = D.peer_of self.entry.plan.now.engine;
-          journal = D.journal self.entry.plan.now.engine;
-          reports = D.reports self.entry.plan.now.engine;
-          channels = D.carried_on self.entry.plan.now.engine;
-          max_size = D.carried_size self.entry.plan.now.engine;
-          height = D.State.height_of;
-          shown = D.State.bytes_of;
-          participants = self.entry.plan.now.participants;
-          crashes = self.entry.plan.now.crashes;
-          link = self.entry.plan.now.link;
-          checks = self.entry.plan.now.finalization_property;
-          check_name = λ p. finalization_name p;
-          complaint = λ p. finalization_complaint p;
-          properties = self.entry.plan.now.property;
-          property_name = λ p. property_name p;
-          objection = λ p. property_complaint p;
-          condition = self.entry.plan.now.exit_condition;
-          condition_name = λ c. exit_name c;
-          polls = λ c. exit_polls c;
-          verdict = λ c. exit_verdict c;
-          required = self.entry.plan.now.required_finalizations;
-          max_events = self.entry.plan.now.max_events;
-          timeout = self.entry.plan.now.timeout;
-        })
-            (course_of self.entry) (course_of next) × (next.plan ≡ self.entry.plan) }
-        ensures done { (r : ResultView) → result ≡ Ok (Stepped.Done r) → Finishes (record {
-          engine = self.entry.plan.now.engine;
-          peer_of = D.peer_of self.entry.plan.now.engine;
-          journal = D.journal self.entry.plan.now.engine;
-          reports = D.reports self.entry.plan.now.engine;
-          channels = D.carried_on self.entry.plan.now.engine;
-          max_size = D.carried_size self.entry.plan.now.engine;
-          height = D.State.height_of;
-          shown = D.State.bytes_of;
-          participants = self.entry.plan.now.participants;
-          crashes = self.entry.plan.now.crashes;
-          link = self.entry.plan.now.link;
-          checks = self.entry.plan.now.finalization_property;
-          check_name = λ p. finalization_name p;
-          complaint = λ p. finalization_complaint p;
-          properties = self.entry.plan.now.property;
-          property_name = λ p. property_name p;
-          objection = λ p. property_complaint p;
-          condition = self.entry.plan.now.exit_condition;
-          condition_name = λ c. exit_name c;
-          polls = λ c. exit_polls c;
-          verdict = λ c. exit_verdict c;
-          required = self.entry.plan.now.required_finalizations;
-          max_events = self.entry.plan.now.max_events;
-          timeout = self.entry.plan.now.timeout;
-        })
-            (course_of self.entry) r }
-        ensures fails { (e : EndedView) → result ≡ Err (SimEnd.Fault e) → Fails (record {
-          engine = self.entry.plan.now.engine;
-          peer_of = D.peer_of self.entry.plan.now.engine;
-          journal = D.journal self.entry.plan.now.engine;
-          reports = D.reports self.entry.plan.now.engine;
-          channels = D.carried_on self.entry.plan.now.engine;
-          max_size = D.carried_size self.entry.plan.now.engine;
-          height = D.State.height_of;
-          shown = D.State.bytes_of;
-          participants = self.entry.plan.now.participants;
-          crashes = self.entry.plan.now.crashes;
-          link = self.entry.plan.now.link;
-          checks = self.entry.plan.now.finalization_property;
-          check_name = λ p. finalization_name p;
-          complaint = λ p. finalization_complaint p;
-          properties = self.entry.plan.now.property;
-          property_name = λ p. property_name p;
-          objection = λ p. property_complaint p;
-          condition = self.entry.plan.now.exit_condition;
-          condition_name = λ c. exit_name c;
-          polls = λ c. exit_polls c;
-          verdict = λ c. exit_verdict c;
-          required = self.entry.plan.now.required_finalizations;
-          max_events = self.entry.plan.now.max_events;
-          timeout = self.entry.plan.now.timeout;
-        })
-            (course_of self.entry) e }
+        ensures on { (next : _) →
+            result ≡ Ok (Stepped.On next) →
+            GoesOn (⟦<Plan<D> as Means>⟧.meaning self.entry.plan.now) (course_of self.entry)
+            (course_of next)
+            × (next.plan ≡ self.entry.plan) }
+        ensures done { (r : ResultView) →
+            result ≡ Ok (Stepped.Done r) →
+            Finishes (⟦<Plan<D> as Means>⟧.meaning self.entry.plan.now) (course_of self.entry) r }
+        ensures fails { (e : EndedView) →
+            result ≡ Err (SimEnd.Fault e) →
+            Fails (⟦<Plan<D> as Means>⟧.meaning self.entry.plan.now) (course_of self.entry) e }
     {
         let plan = self.plan;
         match early(
@@ -142,70 +73,14 @@ impl<'a, D: EngineDefinition> Simulation<'a, D> {
             × (e.timeout ≡ self.entry.plan.now.timeout) }
         ensures comes { (e : EndedView) →
             result ≡ Err (SimEnd.Fault e) →
-            Comes
-            (ReportsThen (D.peer_of self.entry.plan.now.engine) (D.journal self.entry.plan.now.engine)
-            (D.reports self.entry.plan.now.engine) (told_first self.entry.queue)
-            (empty_agenda self.entry.queue.next) self.entry.world)
-            (SkipsAfter (D.peer_of self.entry.plan.now.engine) (D.journal self.entry.plan.now.engine)
-            (D.reports self.entry.plan.now.engine) D.State.height_of self.entry.plan.now.participants
-            self.entry.plan.now.crashes
-            (Finds (λ p. finalization_complaint p) self.entry.plan.now.finalization_property
-            D.State.height_of D.State.bytes_of (λ c. exit_verdict c)
-            self.entry.plan.now.exit_condition self.entry.plan.now.required_finalizations
-            self.entry.plan.now.participants self.entry.plan.now.crashes self.entry.watch)
-            (told_first self.entry.queue) (empty_agenda self.entry.queue.next) self.entry.world)
-            (MissesAt (D.peer_of self.entry.plan.now.engine) (D.journal self.entry.plan.now.engine)
-            (D.reports self.entry.plan.now.engine) D.State.height_of D.State.bytes_of
-            (Finds (λ p. finalization_complaint p) self.entry.plan.now.finalization_property
-            D.State.height_of D.State.bytes_of (λ c. exit_verdict c)
-            self.entry.plan.now.exit_condition self.entry.plan.now.required_finalizations
-            self.entry.plan.now.participants self.entry.plan.now.crashes self.entry.watch)
-            (λ c. exit_verdict c) self.entry.plan.now.exit_condition
-            self.entry.plan.now.required_finalizations self.entry.plan.now.participants
-            self.entry.plan.now.crashes self.entry.queue self.entry.watch self.entry.world)
-            self.entry.watch e.fault }
+            ComesAt (⟦<Plan<D> as Means>⟧.meaning self.entry.plan.now) (course_of self.entry) e.fault }
         ensures answered { (e : EndedView) →
             result ≡ Err (SimEnd.Fault e) →
-            Answered (λ p. finalization_name p) (λ p. finalization_complaint p) (λ p. property_name p)
-            (λ p. property_complaint p) (λ c. exit_name c) (λ c. exit_verdict c)
-            self.entry.plan.now.finalization_property self.entry.plan.now.property
-            self.entry.plan.now.exit_condition
-            (SeesAfter (D.peer_of self.entry.plan.now.engine) (D.journal self.entry.plan.now.engine)
-            (D.reports self.entry.plan.now.engine) D.State.height_of D.State.bytes_of
-            self.entry.plan.now.participants self.entry.plan.now.crashes
-            (Finds (λ p. finalization_complaint p) self.entry.plan.now.finalization_property
-            D.State.height_of D.State.bytes_of (λ c. exit_verdict c)
-            self.entry.plan.now.exit_condition self.entry.plan.now.required_finalizations
-            self.entry.plan.now.participants self.entry.plan.now.crashes self.entry.watch)
-            (told_first self.entry.queue) (empty_agenda self.entry.queue.next) self.entry.world)
-            (Asks (D.peer_of self.entry.plan.now.engine) (D.journal self.entry.plan.now.engine)
-            (D.reports self.entry.plan.now.engine) D.State.height_of D.State.bytes_of
-            self.entry.plan.now.participants self.entry.plan.now.crashes
-            (Finds (λ p. finalization_complaint p) self.entry.plan.now.finalization_property
-            D.State.height_of D.State.bytes_of (λ c. exit_verdict c)
-            self.entry.plan.now.exit_condition self.entry.plan.now.required_finalizations
-            self.entry.plan.now.participants self.entry.plan.now.crashes self.entry.watch)
-            (told_first self.entry.queue) (polls_first self.entry.queue) self.entry.watch
-            (empty_agenda self.entry.queue.next) self.entry.world)
-            (Ends (D.peer_of self.entry.plan.now.engine) (D.journal self.entry.plan.now.engine)
-            (D.reports self.entry.plan.now.engine) D.State.height_of D.State.bytes_of
-            (Finds (λ p. finalization_complaint p) self.entry.plan.now.finalization_property
-            D.State.height_of D.State.bytes_of (λ c. exit_verdict c)
-            self.entry.plan.now.exit_condition self.entry.plan.now.required_finalizations
-            self.entry.plan.now.participants self.entry.plan.now.crashes self.entry.watch)
-            (λ c. exit_verdict c) self.entry.plan.now.exit_condition
-            self.entry.plan.now.required_finalizations self.entry.plan.now.participants
-            self.entry.plan.now.crashes self.entry.queue self.entry.watch self.entry.world)
-            self.entry.watch e.fault }
+            AnsweredAt (⟦<Plan<D> as Means>⟧.meaning self.entry.plan.now) (course_of self.entry) e.fault }
         ensures on { (next : _) →
             result ≡ Ok (Stepped.On next) →
-            Proceeds (D.peer_of self.entry.plan.now.engine) (D.journal self.entry.plan.now.engine)
-            (D.reports self.entry.plan.now.engine) D.State.height_of self.entry.plan.now.participants
-            self.entry.plan.now.crashes
-            (Finds (λ p. finalization_complaint p) self.entry.plan.now.finalization_property
-            D.State.height_of D.State.bytes_of (λ c. exit_verdict c) self.entry.plan.now.exit_condition
-            self.entry.plan.now.required_finalizations self.entry.plan.now.participants
-            self.entry.plan.now.crashes self.entry.watch)
+            Proceeds (⟦<Plan<D> as Means>⟧.meaning self.entry.plan.now)
+            (Finds (⟦<Plan<D> as Means>⟧.meaning self.entry.plan.now) self.entry.watch)
             self.entry.queue next.queue self.entry.watch next.watch self.entry.world next.world
             × (next.handled ≡ self.entry.handled + 1)
             × (next.seed ≡ self.entry.seed)
@@ -213,8 +88,7 @@ impl<'a, D: EngineDefinition> Simulation<'a, D> {
         ensures unmet { (next : _) →
             result ≡ Ok (Stepped.On next) →
             IsTrue (polls_first self.entry.queue) →
-            ExitIs (λ c. exit_verdict c) self.entry.plan.now.exit_condition
-            self.entry.plan.now.required_finalizations
+            ExitIs (⟦<Plan<D> as Means>⟧.meaning self.entry.plan.now)
             (target_count self.entry.plan.now.participants self.entry.plan.now.crashes
             self.entry.world.exercise.delayed_started)
             (tracker_of self.entry.watch)
@@ -233,9 +107,7 @@ impl<'a, D: EngineDefinition> Simulation<'a, D> {
             × (r.timeout ≡ self.entry.plan.now.timeout) }
         ensures success { (r : ResultView) →
             result ≡ Ok (Stepped.Done r) →
-            Succeeds (λ c. exit_verdict c) (λ p. property_complaint p) self.entry.plan.now.participants
-            self.entry.plan.now.crashes self.entry.plan.now.exit_condition
-            self.entry.plan.now.required_finalizations self.entry.plan.now.property r }
+            Succeeds (⟦<Plan<D> as Means>⟧.meaning self.entry.plan.now) r }
         ensures delayed { (r : ResultView) →
             result ≡ Ok (Stepped.Done r) →
             (count : ℕ)
@@ -247,15 +119,8 @@ impl<'a, D: EngineDefinition> Simulation<'a, D> {
         ensures counts { (r : ResultView) →
             result ≡ Ok (Stepped.Done r) →
             (more : _)
-            × (end : Ends (D.peer_of self.entry.plan.now.engine) (D.journal self.entry.plan.now.engine)
-            (D.reports self.entry.plan.now.engine) D.State.height_of D.State.bytes_of
-            (Finds (λ p. finalization_complaint p) self.entry.plan.now.finalization_property
-            D.State.height_of D.State.bytes_of (λ c. exit_verdict c) self.entry.plan.now.exit_condition
-            self.entry.plan.now.required_finalizations self.entry.plan.now.participants
-            self.entry.plan.now.crashes self.entry.watch)
-            (λ c. exit_verdict c) self.entry.plan.now.exit_condition
-            self.entry.plan.now.required_finalizations self.entry.plan.now.participants
-            self.entry.plan.now.crashes self.entry.queue self.entry.watch self.entry.world more r.states)
+            × (end : MeetsEnd (⟦<Plan<D> as Means>⟧.meaning self.entry.plan.now) (course_of self.entry) more
+            r.states)
             × (r.updates ≡ self.entry.watch ++ more)
             × (tally_shown r ≡ tally_of end.after.exercise)
             × (r.delayed_started ≡ end.after.exercise.delayed_started) }
@@ -307,8 +172,7 @@ impl<'a, D: EngineDefinition> Simulation<'a, D> {
 
     /// Asks the properties and looks whether each configured failure came to something.
     fn finish(self, reached: Reached) -> Result<Stepped<'a, D>, SimEnd>
-        requires { IsReached (λ c. exit_verdict c) self.plan.now.exit_condition
-            self.plan.now.required_finalizations
+        requires { IsReached (⟦<Plan<D> as Means>⟧.meaning self.plan.now)
             (target_count self.plan.now.participants self.plan.now.crashes
             self.world.exercise.delayed_started)
             self.watch reached }
@@ -325,10 +189,8 @@ impl<'a, D: EngineDefinition> Simulation<'a, D> {
             self.entry.watch e.fault }
         ensures answered { (e : EndedView) →
             result ≡ Err (SimEnd.Fault e) →
-            Answered (λ p. finalization_name p) (λ p. finalization_complaint p) (λ p. property_name p)
-            (λ p. property_complaint p) (λ c. exit_name c) (λ c. exit_verdict c)
-            self.entry.plan.now.finalization_property self.entry.plan.now.property
-            self.entry.plan.now.exit_condition (λ more states. ⊥) (λ more states target. ⊥)
+            Answered (⟦<Plan<D> as Means>⟧.meaning self.entry.plan.now) (λ more states. ⊥)
+            (λ more states target. ⊥)
             (EndsAt reached.states.items) self.entry.watch e.fault }
         ensures on { (next : _) → result ≡ Ok (Stepped.On next) → ⊥ }
         ensures done { (r : ResultView) →
@@ -346,9 +208,7 @@ impl<'a, D: EngineDefinition> Simulation<'a, D> {
             × (r.states ≡ reached.states.items) }
         ensures success { (r : ResultView) →
             result ≡ Ok (Stepped.Done r) →
-            Succeeds (λ c. exit_verdict c) (λ p. property_complaint p) self.entry.plan.now.participants
-            self.entry.plan.now.crashes self.entry.plan.now.exit_condition
-            self.entry.plan.now.required_finalizations self.entry.plan.now.property r }
+            Succeeds (⟦<Plan<D> as Means>⟧.meaning self.entry.plan.now) r }
     {
         let plan = self.plan;
         match check_properties(
