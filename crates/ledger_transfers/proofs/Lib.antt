@@ -4,6 +4,7 @@ pub mod OrderOfTouches
 pub mod AccountLemmas
 pub mod TouchesLemmas
 pub mod GreedyLemmas
+mod HashedLemmas
 pub mod SettleLemmas
 pub mod TakingLemmas
 pub mod SelectLemmas

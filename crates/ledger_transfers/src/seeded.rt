@@ -1,5 +1,6 @@
 //! How keys are hashed.
 
+use crate::key_hasher::KeyHasher;
 use std::hash::{BuildHasher, DefaultHasher, Hasher};
 use std::random::RandomSource;
 
@@ -24,12 +25,12 @@ impl Seeded {
 }
 
 impl BuildHasher for Seeded {
-    type Hasher = DefaultHasher;
+    type Hasher = KeyHasher;
 
     ghost build_hasher = { λ s. s.initial };
 
-    fn build_hasher(&self) -> DefaultHasher {
-        self.initial
+    fn build_hasher(&self) -> KeyHasher {
+        KeyHasher::new(self.initial)
     }
 }
 
