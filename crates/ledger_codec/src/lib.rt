@@ -43,6 +43,3 @@ pub use source::{MemorySource, Reading, Source, SourceFailed};
 pub use spell::{Spell, decode, encode, size_of_bytes, size_of_vec};
 pub use text::Text;
 pub use writer::{Writer, size_of_varint};
-
-#[cfg(test)]
-mod tests;

@@ -17,8 +17,6 @@ mod compact;
 mod growth;
 mod item;
 mod syncable;
-#[cfg(test)]
-mod tests;
 
 pub use admission::admit;
 pub use agreement::{Twins, run_both};

@@ -20,8 +20,6 @@ mod names;
 mod operations;
 mod store;
 mod syncable;
-#[cfg(test)]
-mod tests;
 
 pub use agreement::agree;
 pub use config::{CompactConfig, Config, crate_version};

@@ -15,8 +15,6 @@
 #![tactic(auto)]
 
 mod binding;
-#[cfg(test)]
-mod binding_tests;
 mod hashed;
 mod hasher;
 mod leaf;
@@ -31,8 +29,6 @@ mod retained;
 mod sha;
 mod spelling;
 mod spine;
-#[cfg(test)]
-mod tests;
 mod toy;
 
 pub use binding::collision;

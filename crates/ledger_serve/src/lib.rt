@@ -23,6 +23,3 @@ mod tested;
 
 pub use outcome::ServeOutcome;
 pub use serve::run_serve;
-
-#[cfg(test)]
-mod tests;

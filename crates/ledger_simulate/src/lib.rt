@@ -24,17 +24,11 @@ mod messages;
 mod opening;
 mod plan;
 mod queue;
-#[cfg(test)]
-mod replays;
 mod reports;
 mod run;
 mod setting;
 mod simulation;
 mod spelling;
-#[cfg(test)]
-mod telling;
-#[cfg(test)]
-mod tests;
 mod watch;
 mod world;
 

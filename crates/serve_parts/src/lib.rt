@@ -21,6 +21,3 @@ pub use batch::test_batch;
 pub use family::TestedFamily;
 pub use form::{ServeForm, ServedFrom, serve_form};
 pub use logs::{compact_test_log, test_log};
-
-#[cfg(test)]
-mod tests;

@@ -21,8 +21,6 @@ mod reporter;
 mod schedule;
 mod seats;
 mod team;
-#[cfg(test)]
-mod tests;
 mod tracker;
 mod words;
 

@@ -30,8 +30,6 @@ mod receiving;
 mod session;
 mod steps;
 mod targets;
-#[cfg(test)]
-mod tests;
 
 pub use asked::Asked;
 pub use collector::{Collector, Piece};

@@ -11,6 +11,3 @@
 mod compact;
 
 pub use compact::CompactMode;
-
-#[cfg(test)]
-mod tests;

@@ -15,8 +15,6 @@ mod exchange;
 mod fault;
 mod state;
 mod target;
-#[cfg(test)]
-mod tests;
 
 pub use fault::StateFault;
 pub use state::fetch_compact;

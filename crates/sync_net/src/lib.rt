@@ -41,6 +41,3 @@ pub use response::{
     ErrorResponse, GetCompactStateResponse, GetCompactTargetResponse, GetOperationsResponse,
     GetSyncTargetResponse,
 };
-
-#[cfg(test)]
-mod tests;

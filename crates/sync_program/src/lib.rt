@@ -18,6 +18,3 @@ mod text;
 
 pub use outcome::SyncOutcome;
 pub use program::run_sync;
-
-#[cfg(test)]
-mod tests;

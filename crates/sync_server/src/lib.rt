@@ -27,6 +27,3 @@ pub use memory::MemoryLink;
 pub use mode::{FullMode, MAX_BATCH_SIZE, ServeMode};
 pub use sent::SentFamily;
 pub use tape::TapeLink;
-
-#[cfg(test)]
-mod tests;

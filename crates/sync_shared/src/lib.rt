@@ -17,6 +17,3 @@ mod turns;
 pub use event::{Event, EventOutcome, LogCalls};
 pub use refusal::ShareRefusal;
 pub use shared::{Closed, Entry, Note, Pass, SharedLog};
-
-#[cfg(test)]
-mod tests;

@@ -1,0 +1,5 @@
+//! Worked examples.
+
+mod activity;
+mod compact;
+mod examples;

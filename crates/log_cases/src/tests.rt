@@ -1,0 +1,5 @@
+//! Worked examples.
+
+mod binding;
+mod logs;
+mod trees;

@@ -1,0 +1,6 @@
+//! Worked examples.
+
+mod forms;
+mod parts;
+mod serve;
+mod sync;

@@ -1,0 +1,6 @@
+//! Worked examples.
+
+mod parts;
+mod replays;
+mod runs;
+mod telling;

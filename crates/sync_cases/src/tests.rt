@@ -1,0 +1,6 @@
+//! Worked examples.
+
+mod client;
+mod compact;
+mod fetch;
+mod server;
