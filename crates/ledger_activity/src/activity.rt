@@ -1,10 +1,10 @@
 //! The bits of a log, and its canonical root.
-ghost use Rattle.std.specs.Prelude.{◌≡◌, ℕ, ◌+◌, ◌<◌, ◌≤◌, Bool, false, List as Items, IsOkUnless, IfOk, OnOk, length, drop, replicate, ◌++◌, ◌∷◌};
-ghost use Rattle.ledger_activity.specs.Active.{IsLater, activity, log_bits};
+ghost use Rattle.std.specs.Prelude.{◌≡◌, ℕ, Bool, false, List as Items, IsOkUnless, IfOk, length, replicate, ◌++◌};
+ghost use Rattle.ledger_activity.specs.Active.{activity, log_bits};
 
 use crate::CurrentFamily;
+use crate::behind::bits_behind;
 use crate::chunks::{hash_canonical, root_of_bits};
-use crate::later::Later;
 use ledger_codec::{Digest, OutOfMemory};
 use ledger_log::{Family, Log, LogFault};
 use ledger_merkle::{Hasher, Location};
@@ -73,7 +73,7 @@ fn all_bits(alloc: Global, front: usize, retained: &[bool]) -> Result<Vec<bool>,
     Ok(bits)
 }
 
-/// The bits of the retained operations, found in one walk from their end.
+/// The bits of the retained operations.
 fn active_bits<H: Hasher>(
     alloc: Global,
     log: &Log<CurrentFamily, H>,
@@ -81,31 +81,6 @@ fn active_bits<H: Hasher>(
     ensures bits { IfOk result (λ bits. bits.items ≡ activity log.now.ops) }
     ensures count { IfOk result (λ bits. length bits.items ≡ length log.now.ops) }
 {
-    let mut index = (log.size().get() - log.front().get()) as usize;
-    let mut bits = Vec::from_elem(alloc, false, index)?;
-    let mut later = Later::new(alloc);
-    while index > 0 {
-        index -= 1;
-        bits[index] = bit_before(log, index as u64, &mut later)?;
-    }
-    Ok(bits)
-}
-
-/// The bit of the operation with this index from the front on, before those that were met.
-fn bit_before<H: Hasher>(
-    log: &Log<CurrentFamily, H>,
-    index: u64,
-    later: &mut Later,
-) -> Result<bool, OutOfMemory>
-    requires most { index < length log.now.ops }
-    requires later { IsLater later.old (drop (index + 1) log.now.ops) }
-    ensures active { IfOk result
-        (λ active. activity (drop index log.now.ops) ≡ active ∷ activity (drop (index + 1) log.now.ops)) }
-    ensures later { OnOk result (IsLater later.new (drop index log.now.ops)) }
-{
     let _size = log.size();
-    match log.op_at(log.front().plus(index)) {
-        Some(op) => later.meet(op),
-        None => unreachable!(),
-    }
+    bits_behind(alloc, log, &[])
 }

@@ -12,11 +12,11 @@
 #![tactic(auto)]
 
 mod activity;
+mod behind;
 mod chunks;
 mod current;
 mod later;
-#[cfg(test)]
-mod tests;
 
 pub use activity::Activity;
+pub use behind::current_root_behind;
 pub use current::CurrentFamily;

@@ -14,7 +14,17 @@ pub record StagedView (Op : Type 0) : Type 0 where
   pub batch : BatchView Op
   pub keys : List (List ℕ)
 
--- a sealed batch: its chain, and what it appends behind it
+-- what a sealed batch appends behind its chain
 pub record SealedView (Op : Type 0) : Type 0 where
   pub chain : ChainView Op
   pub own : LinkView Op
+
+-- a sealed batch: this, and the root that the database shows once the batch is applied
+pub record MerkleizedView (Op : Type 0) : Type 0 where
+  pub chain : ChainView Op
+  pub own : LinkView Op
+  pub root : List ℕ
+
+-- the batch without that root
+abbrev pub body_of : {Op : Type 0} → MerkleizedView Op → SealedView Op
+body_of batch = record { chain = batch.chain; own = batch.own }

@@ -16,6 +16,9 @@
 #![tactic(auto)]
 
 mod applying;
+#[cfg(test)]
+mod current_tests;
+mod family;
 mod merkleized;
 mod reading;
 mod sealing;
@@ -25,6 +28,8 @@ mod tests;
 mod unmerkleized;
 
 pub use applying::apply;
+pub use family::BatchFamily;
+use ledger_activity::CurrentFamily;
 pub use ledger_chain::{ManagedFault, State};
 use ledger_log::AnyFamily;
 pub use merkleized::Merkleized;
@@ -39,3 +44,12 @@ pub type AnyStaged = Staged<AnyFamily>;
 
 /// A sealed batch over a log of the family any.
 pub type AnyMerkleized = Merkleized<AnyFamily>;
+
+/// A batch over a log of the family current.
+pub type CurrentUnmerkleized = Unmerkleized<CurrentFamily>;
+
+/// A batch over a log of the family current, with keys read for slots.
+pub type CurrentStaged = Staged<CurrentFamily>;
+
+/// A sealed batch over a log of the family current.
+pub type CurrentMerkleized = Merkleized<CurrentFamily>;

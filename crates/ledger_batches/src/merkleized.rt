@@ -5,7 +5,9 @@ ghost use Rattle.ledger_chain.specs.Chain.{state_of, read, with_link};
 ghost use Rattle.ledger_chain.specs.Faults.{stale_read};
 
 use crate::reading::lacking;
+use crate::sealing::Sealed;
 use crate::unmerkleized::Unmerkleized;
+use ledger_activity::CurrentFamily;
 use ledger_chain::{Chain, Link, ManagedFault};
 use ledger_codec::{Digest, OutOfMemory};
 use ledger_log::{AnyFamily, Family, Key, KeyedFamily, Log, Value};
@@ -14,39 +16,42 @@ use ledger_transfers::Seeded;
 use std::alloc::Global;
 use std::marker::Model;
 
-/// A sealed batch: what it appends, and the state after it, with the chain that it stands on. It is read over the
-/// states of that chain, which its own isn't one of.
+/// A sealed batch: what it appends, and the state and the shown root after it, with the chain that it stands on. It
+/// is read over the states of that chain, which its own isn't one of.
 #[derive(Drop)]
 pub struct Merkleized<F: Family> {
     alloc: Global,
     hashing: Seeded,
     chain: Chain<F>,
     own: Link<F>,
+    root: Digest,
 }
 
 impl<F: Family> Model for Merkleized<F> {
-    ghost use Rattle.ledger_batches.specs.Batches.{SealedView};
+    ghost use Rattle.ledger_batches.specs.Batches.{MerkleizedView};
 
-    ghost Value = { SealedView F.Op };
+    ghost Value = { MerkleizedView F.Op };
 
-    ghost view = { λ b. record { chain = b.chain; own = b.own } };
+    ghost view = { λ b. record { chain = b.chain; own = b.own; root = b.root } };
 }
 
 impl<F: Family> Merkleized<F> {
-    /// The batch over this chain that appends what the link does. What it keeps by keys is hashed so.
+    /// The batch over this chain that was sealed so. What it keeps by keys is hashed so.
     pub(crate) fn new(
         alloc: Global,
         hashing: Seeded,
         chain: Chain<F>,
-        own: Link<F>,
+        sealed: Sealed<F>,
     ) -> Merkleized<F>
-        ensures { result ≡ record { chain = chain; own = own } }
+        ensures { result ≡ record { chain = chain; own = sealed.own; root = sealed.root } }
     {
+        let Sealed { own, root } = sealed;
         Merkleized {
             alloc,
             hashing,
             chain,
             own,
+            root,
         }
     }
 
@@ -115,16 +120,27 @@ impl<F: Family> Merkleized<F> {
             hashing: self.hashing,
             chain: self.chain.copy(self.alloc)?,
             own: self.own.copy()?,
+            root: self.root,
         })
     }
 }
 
 impl Merkleized<AnyFamily> {
-    /// The root that the database shows once the batch is applied.
+    /// The root that the database shows once the batch is applied, which is that over its operations.
     pub fn root(&self) -> Digest
         ensures { result ≡ self.now.own.after.root }
     {
         self.ops_root()
+    }
+}
+
+impl Merkleized<CurrentFamily> {
+    /// The root that the database shows once the batch is applied, over its operations and over the bits of those
+    /// that count then.
+    pub fn root(&self) -> Digest
+        ensures { result ≡ self.now.root }
+    {
+        self.root
     }
 }
 

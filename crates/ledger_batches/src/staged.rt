@@ -1,12 +1,15 @@
 //! A batch with keys read for slots.
 ghost use Rattle.std.specs.Prelude.{◌≡◌, ◌⊎◌, ◌+◌, ◌++◌, [], ◌↔◌, length, map, None, Err, MatchOption, IsOkUnless, IfSome, IfOk, IfErr, OnOk, IsTrue, Some};
+ghost use Rattle.ledger_compact.specs.View.{with_ops};
 ghost use Rattle.ledger_raising.specs.Raised.{Raises};
 ghost use Rattle.ledger_chain.specs.Chain.{state_of, read};
 ghost use Rattle.ledger_chain.specs.Changes.{changes};
 ghost use Rattle.ledger_chain.specs.Faults.{stale_read};
+ghost use Rattle.ledger_batches.specs.Batches.{body_of};
 ghost use Rattle.ledger_batches.specs.Sealing.{completed, sealed, seal_refusal};
 ghost use Rattle.ledger_batches.specs.Slots.{slot_write, slot_writes, with_slots};
 
+use crate::family::BatchFamily;
 use crate::merkleized::Merkleized;
 use crate::reading::lacking;
 use crate::unmerkleized::Unmerkleized;
@@ -14,7 +17,6 @@ use ledger_chain::ManagedFault;
 use ledger_codec::OutOfMemory;
 use ledger_log::{Family, Key, KeyedFamily, Log, Value};
 use ledger_merkle::Hasher;
-use ledger_raising::RaisingFamily;
 use ledger_transfers::Slot;
 use std::alloc::Global;
 use std::marker::Model;
@@ -158,7 +160,7 @@ impl<F: Family> Staged<F> {
     }
 }
 
-impl<F: RaisingFamily> Staged<F> {
+impl<F: BatchFamily> Staged<F> {
     /// The batch sealed, with its writes so far, then those of the slots, one for each staged key, and then the
     /// unstaged ones: the last of a key wins, at the first one's place. Refused as [`Unmerkleized::merkleize`] is.
     pub fn merkleize<H: Hasher>(
@@ -175,8 +177,10 @@ impl<F: RaisingFamily> Staged<F> {
         ensures refuses { IfErr result (λ e. (e ≡ ManagedFault.OutOfMemory) ⊎
             (seal_refusal H.digest F.Op.spelling F.floor_of F.write_of F.put_of F.delete_of F.commit_of
             (with_slots self slots.items unstaged.items) db.now ≡ Some e)) }
-        ensures ok { IfOk result (λ batch. batch ≡ sealed H.digest F.Op.spelling F.floor_of F.write_of
-            F.put_of F.delete_of F.commit_of (with_slots self slots.items unstaged.items) db.now) }
+        ensures ok { IfOk result (λ batch. body_of batch ≡ sealed H.digest F.Op.spelling F.floor_of
+            F.write_of F.put_of F.delete_of F.commit_of (with_slots self slots.items unstaged.items) db.now) }
+        ensures root { IfOk result (λ batch. batch.root ≡ F.shown_of H.digest
+            (with_ops (completed H.digest F.Op.spelling self.batch.chain db.now) batch.own.ops)) }
         ensures law { IfOk result (λ batch. Raises F.floor_of F.write_of
             (completed H.digest F.Op.spelling self.batch.chain db.now)
             (changes F.write_of F.put_of F.delete_of self.batch.chain db.now

@@ -1,21 +1,23 @@
 //! A batch that takes writes.
 ghost use Rattle.std.specs.Prelude.{◌≡◌, ◌⊎◌, ◌++◌, ◌∷◌, [], None, Some, Err, map, MatchOption, IsOk, IsOkUnless, IfSome, IfOk, IfErr, OnOk};
+ghost use Rattle.ledger_compact.specs.View.{with_ops};
 ghost use Rattle.ledger_raising.specs.Raised.{Raises};
 ghost use Rattle.ledger_chain.specs.Chain.{state_of, read};
 ghost use Rattle.ledger_chain.specs.Changes.{changes};
 ghost use Rattle.ledger_chain.specs.Faults.{stale_read};
 ghost use Rattle.ledger_chain.specs.Writes.{settled};
+ghost use Rattle.ledger_batches.specs.Batches.{body_of};
 ghost use Rattle.ledger_batches.specs.Sealing.{completed, sealed, seal_refusal};
 
+use crate::family::BatchFamily;
 use crate::merkleized::Merkleized;
 use crate::reading::lacking;
-use crate::sealing::seal;
+use crate::sealing::{Sealed, seal};
 use crate::staged::Staged;
-use ledger_chain::{Chain, Link, ManagedFault, Writes, state_of};
+use ledger_chain::{Chain, ManagedFault, Writes, state_of};
 use ledger_codec::OutOfMemory;
 use ledger_log::{Family, Key, KeyedFamily, Log, Value};
 use ledger_merkle::Hasher;
-use ledger_raising::RaisingFamily;
 use ledger_transfers::Seeded;
 use std::alloc::Global;
 use std::marker::Model;
@@ -202,7 +204,7 @@ impl<F: KeyedFamily> Unmerkleized<F> {
     }
 }
 
-impl<F: RaisingFamily> Unmerkleized<F> {
+impl<F: BatchFamily> Unmerkleized<F> {
     /// The batch sealed: what it appends behind the database and the ancestors that this lacks, and the state
     /// after that. Its commit's floor is as high as one copy of an old operation for each change allows. Refused as
     /// [`Unmerkleized::get`] is, then as the log would refuse the first of the missing batches and of this one that
@@ -215,21 +217,23 @@ impl<F: RaisingFamily> Unmerkleized<F> {
         ensures refuses { IfErr result (λ e. (e ≡ ManagedFault.OutOfMemory) ⊎
             (seal_refusal H.digest F.Op.spelling F.floor_of F.write_of F.put_of F.delete_of F.commit_of
             self db.now ≡ Some e)) }
-        ensures ok { IfOk result (λ batch. batch ≡ sealed H.digest F.Op.spelling F.floor_of F.write_of
-            F.put_of F.delete_of F.commit_of self db.now) }
+        ensures ok { IfOk result (λ batch. body_of batch ≡ sealed H.digest F.Op.spelling F.floor_of
+            F.write_of F.put_of F.delete_of F.commit_of self db.now) }
+        ensures root { IfOk result (λ batch. batch.root ≡ F.shown_of H.digest
+            (with_ops (completed H.digest F.Op.spelling self.chain db.now) batch.own.ops)) }
         ensures law { IfOk result (λ batch. Raises F.floor_of F.write_of
             (completed H.digest F.Op.spelling self.chain db.now)
             (changes F.write_of F.put_of F.delete_of self.chain db.now self.writes) batch.own.ops) }
     {
-        let own = match self.sealed(db) {
-            Ok(own) => own,
+        let sealed = match self.sealed(db) {
+            Ok(sealed) => sealed,
             Err(fault) => return Err(fault),
         };
-        Ok(Merkleized::new(self.alloc, self.hashing, self.chain, own))
+        Ok(Merkleized::new(self.alloc, self.hashing, self.chain, sealed))
     }
 
     /// What the batch is behind the database once it is sealed.
-    fn sealed<H: Hasher>(&self, db: &Log<F, H>) -> Result<Link<F>, ManagedFault>
+    fn sealed<H: Hasher>(&self, db: &Log<F, H>) -> Result<Sealed<F>, ManagedFault>
         ensures stale { IfSome (stale_read self.now.chain (state_of H.digest F.Op.spelling db.now))
             (λ fault. result ≡ Err fault) }
         ensures may { OnOk result (seal_refusal H.digest F.Op.spelling F.floor_of F.write_of F.put_of
@@ -238,11 +242,13 @@ impl<F: RaisingFamily> Unmerkleized<F> {
             (seal_refusal H.digest F.Op.spelling F.floor_of F.write_of F.put_of F.delete_of F.commit_of
             self.now db.now ≡ Some e)) }
         ensures ok { IfOk result
-            (λ link. link ≡ (sealed H.digest F.Op.spelling F.floor_of F.write_of F.put_of F.delete_of
+            (λ s. s.own ≡ (sealed H.digest F.Op.spelling F.floor_of F.write_of F.put_of F.delete_of
             F.commit_of self.now db.now).own) }
-        ensures law { IfOk result (λ link. Raises F.floor_of F.write_of
+        ensures root { IfOk result (λ s. s.root ≡ F.shown_of H.digest
+            (with_ops (completed H.digest F.Op.spelling self.now.chain db.now) s.own.ops)) }
+        ensures law { IfOk result (λ s. Raises F.floor_of F.write_of
             (completed H.digest F.Op.spelling self.now.chain db.now)
-            (changes F.write_of F.put_of F.delete_of self.now.chain db.now self.now.writes) link.ops) }
+            (changes F.write_of F.put_of F.delete_of self.now.chain db.now self.now.writes) s.own.ops) }
     {
         let links = match lacking(&self.chain, db) {
             Ok(links) => links,
@@ -260,7 +266,7 @@ impl<F: RaisingFamily> Unmerkleized<F> {
             changes.as_slice(),
             self.metadata,
         ) {
-            Ok(link) => Ok(link),
+            Ok(sealed) => Ok(sealed),
             Err(fault) => Err(ManagedFault::from(fault)),
         }
     }

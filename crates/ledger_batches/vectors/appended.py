@@ -5,7 +5,7 @@ import random
 import sys
 
 sys.path.insert(0, str(pathlib.Path(__file__).resolve().parents[3] / "tests"))
-from rules import commit, root, update, varint  # noqa: E402
+from rules import commit, root, sha, update, varint  # noqa: E402
 
 
 def replay(ops):
@@ -138,6 +138,24 @@ def chain():
     return logs
 
 
+def canonical(ops):
+    """The root that a current log shows: over the operations' root and that of the bits, in chunks of 32 bytes, which
+    tell what counts and the last commit."""
+    counts = set(counting(ops)) | {max(place for place, op in enumerate(ops) if op[0] == "commit")}
+    bits = "".join("1" if place in counts else "0" for place in range(len(ops)))
+    bits += "0" * (-len(bits) % 256)
+    chunks = [int(bits[at : at + 256], 2).to_bytes(32, "big") for at in range(0, len(bits), 256)]
+    return sha(b"\3" + root([spelled(op) for op in ops]) + root(chunks))
+
+
+def current():
+    """A current log of one account, and what it is with a batch behind it whose slots for 1, 2 and 1 put 1, delete and
+    put 2; with one that takes the value of 1 behind these; and with this one, of a chain, behind the first."""
+    held = opened((1, 1))
+    put = grown(held, [(1, 1), (2, None), (1, 2)])
+    return [held, put, grown(held, [(1, 1), (2, None), (1, 2), (1, None)]), grown(put, [(1, None)])]
+
+
 def main():
     for text, value in reads():
         print(text, value)
@@ -148,6 +166,9 @@ def main():
     laws()
     for ops in chain():
         print("a log of", len(ops), "floor", floor_of(ops), "root", root([spelled(op) for op in ops]).hex())
+        print("    ", *ops)
+    for ops in current():
+        print("a current log of", len(ops), "floor", floor_of(ops), "root", canonical(ops).hex())
         print("    ", *ops)
     short = [commit(0), update(b"\1" * 32, b"\2" * 32), commit(0)]
     print("root of a log of one account", root(short).hex())

@@ -44,7 +44,7 @@ impl Writes {
     }
 
     /// The written keys, each with what its last write leaves.
-    pub(crate) fn entries(&self) -> &IndexMap<Key, Option<Value>, Seeded>
+    pub fn entries(&self) -> &IndexMap<Key, Option<Value>, Seeded>
         ensures { result.now.entries ≡ self.now }
     {
         &self.entries

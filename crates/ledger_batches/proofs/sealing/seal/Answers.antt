@@ -4,8 +4,8 @@ use Rattle.ledger_compact.specs.View.{with_ops}
 use Rattle.ledger_batches.proofs.Taken.{floor_taken}
 use Rattle.ledger_batches.proofs.sealing.seal.Goals as goal
 
-pub link_of-requires-clause-floor : goal.link_of-requires-clause-floor
-link_of-requires-clause-floor g c =
+pub sealed_of-requires-clause-floor : goal.sealed_of-requires-clause-floor
+sealed_of-requires-clause-floor g c =
     let f = g.F.Family.floor_of in
     let log = with_ops c.args.log.now c.as_slice.result.now in
     floor_taken f log c.in-Ok-raise.batch.ops.items c.in-Ok-raise.batch.floor (ap (append_refusal f log) c.in-Ok-raise.ensures.ok ∙ c.in-Ok-raise.ensures.may) c.in-Ok-raise.ensures.floor

@@ -1,8 +1,9 @@
+use Rattle.std.proofs.Common.{◌++◌}
 use Rattle.ledger_activity.proofs.Bits.{Walked}
-use Rattle.ledger_activity.proofs.activity.active_bits.Given as goal
+use Rattle.ledger_activity.proofs.behind.bits_behind.Given as goal
 
 abbrev pub invariant-loop-index : goal.invariant-loop-index
-invariant-loop-index g l = Walked l.log.ops l.index l.bits.items l.later
+invariant-loop-index g l = Walked (l.log.ops ++ l.more) l.index l.bits.items l.later
 
 abbrev pub decreases-loop-index : goal.decreases-loop-index
 decreases-loop-index g l = l.index
