@@ -16,8 +16,5 @@ mod synced;
 
 pub use compact::fetch_compact_log;
 pub use form::{SyncForm, sync_form};
-pub use log::fetch_log;
+pub use log::{fetch_log, opened};
 pub use synced::{Synced, bring};
-
-#[cfg(test)]
-mod tests;

@@ -51,8 +51,8 @@ where
     }
 }
 
-/// The log of a part.
-fn opened<F: Family>(
+/// The log of a part, of which nothing is hashed again. `WrongState` says that it is none.
+pub fn opened<F: Family>(
     alloc: Global,
     hashed: HashedPart<F::Op>,
 ) -> Result<Log<F, Sha256Hasher>, StateFault>
