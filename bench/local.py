@@ -7,9 +7,10 @@ accounts and one block of rounds of PAYMENTS candidates, a thousand a round, of 
 
 Runs crates/ledger_main/out/ledger_main, which `rt ci` leaves there. With --against it runs another program in turn
 with it, as `local` or as the words behind its path say, compares what both print, and prints the ratios of the
-medians. With --instructions each job is also run once under valgrind's callgrind, whose count doesn't waver with what
-else the machine does. The last line says how long hashing alone takes by Python's hashlib: two compressions a leaf
-and a node.
+medians. Of a job with blocks the lines above the size and the root are compared: a plain program that copies no old
+account behind a block's changes and keeps the floor has another log, and the same accounts. With --instructions each
+job is also run once under valgrind's callgrind, whose count doesn't waver with what else the machine does. The last
+line says how long hashing alone takes by Python's hashlib: two compressions a leaf and a node.
 """
 import argparse
 import hashlib
@@ -77,6 +78,11 @@ def hashing(leaves):
     return time.perf_counter() - start
 
 
+def settled(report):
+    """The lines of a report above those on the log that the blocks made."""
+    return report.partition(b"\nsize ")[0]
+
+
 def told(what, unit, digits, figures):
     line = f"    {what}: {figures[0]:.{digits}f} {unit}"
     if len(figures) > 1:
@@ -84,8 +90,9 @@ def told(what, unit, digits, figures):
     print(line)
 
 
-def compare(name, job, words, others, given):
-    """Runs a job in turn by the program, with these words, and by the other command, and prints the medians."""
+def compare(name, job, words, others, given, part=lambda report: report):
+    """Runs a job in turn by the program, with these words, and by the other command, and prints the medians. What is
+    printed has to be the same, or against another command this part of it."""
     with tempfile.NamedTemporaryFile(suffix=".job") as file:
         file.write(job)
         file.flush()
@@ -95,7 +102,7 @@ def compare(name, job, words, others, given):
             for command, times in zip(commands, spent):
                 taken, report = run(command, file.name)
                 times.append(taken)
-                printed.add(report)
+                printed.add(part(report) if others else report)
         assert len(printed) == 1, "the programs print different reports"
         print(f"{name}:")
         for place, what in enumerate(("by the clock", "user time")):
@@ -124,8 +131,8 @@ def main():
     options.add_argument("--payments", type=int, default=100_000)
     options.add_argument("--workers", type=int, default=4)
     given = options.parse_args()
-    compare("a body", body(given.accounts, given.payments), ["local"], given.against, given)
-    compare("rounds", rounds(given.accounts, given.payments), ["local"], given.against, given)
+    compare("a body", body(given.accounts, given.payments), ["local"], given.against, given, settled)
+    compare("rounds", rounds(given.accounts, given.payments), ["local"], given.against, given, settled)
     sizes = ["generate", "1", str(min(20_000, max(2, given.accounts // 5))), str(min(100_000, given.payments))]
     many = [*sizes, "--workers", str(given.workers)]
     compare(f"`{' '.join(many)}` against one worker", b"", many, [str(PROGRAM), *sizes], given)

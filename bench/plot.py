@@ -7,8 +7,8 @@
 The first draws the figures of bench/figures.json. The second measures them before, by crates/bench_log/out/bench_log
 and crates/ledger_main/out/ledger_main, which `rt ci` leaves there: logs and jobs of N, a half of it, and so on, four
 times halved. All times are processor time, user and system, the least of so many runs. COMMAND is a plain program
-that reads a job and prints its report: it runs the same jobs in turn with ours, and has to print the same. Without it
-there are no plain times and no ratios.
+that reads a job and prints its report: it runs the same jobs in turn with ours, and has to print the same, apart from
+the log's size and root (bench/local.py). Without it there are no plain times and no ratios.
 """
 import argparse
 import datetime
@@ -76,7 +76,7 @@ def measure_job(job, plain, times):
             if plain:
                 spent, other = processor_time(plain, file.name)
                 theirs.append(spent)
-                assert printed == other, "the two programs print different reports"
+                assert local.settled(printed) == local.settled(other), "the two programs print different reports"
         return [round(min(spent), 4) if spent else None for spent in (ours, theirs)]
 
 

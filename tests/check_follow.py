@@ -22,13 +22,15 @@ NAMES = [name.encode().ljust(32, b"\0") for name in ("alice", "bob", "carol", "d
 
 
 def log(rng, batches):
-    """A log of accounts, and its sizes behind its commits."""
-    ops, sizes = [("commit", 0)], [1]
+    """A log of accounts whose floor may rise, and its sizes behind its commits."""
+    ops, sizes, floor = [("commit", 0)], [1], 0
     for _ in range(batches):
         for _ in range(rng.randrange(4)):
             key = rng.choice(NAMES)
             ops.append(("delete", key) if rng.random() < 0.2 else ("update", key, (rng.randrange(30), rng.randrange(2))))
-        ops.append(("commit", 0))
+        if rng.random() < 0.5:
+            floor = rng.randrange(floor, len(ops) + 1)
+        ops.append(("commit", floor))
         sizes.append(len(ops))
     return ops, sizes
 

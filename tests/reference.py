@@ -1,7 +1,7 @@
 #!/usr/bin/env python3
 """What `local` prints for a job, and `follow` for one over a log that a peer serves, worked out independently of the
-program: dictionaries, whole replays and the rules of docs/FORMATS.md. Prints what `local` does, the report or the
-error line (of several offending keys the one that is touched first), and ends with the status.
+program: dictionaries and the rules of docs/FORMATS.md. Prints what `local` does, the report or the error line (of
+several offending keys the one that is touched first), and ends with the status.
 
     python3 tests/reference.py < JOB
 """
@@ -124,14 +124,43 @@ def spelling(op):
     return commit(op[1])
 
 
-def replay(ops):
-    accounts = {}
-    for op in ops:
+class Log:
+    """A log's operations from a place on, with what they leave: each key's account, the place among them of its last
+    operation, and the floor."""
+
+    def __init__(self, ops, start=0):
+        self.start, self.ops, self.accounts, self.last, self.floor = start, [], {}, {}, None
+        for op in ops:
+            self.put(op)
+
+    def put(self, op):
+        if op[0] == "commit":
+            self.floor = op[1]
+        else:
+            self.last[op[1]] = len(self.ops)
+            self.accounts.pop(op[1], None)
         if op[0] == "update":
-            accounts[op[1]] = op[2]
-        elif op[0] == "delete":
-            accounts.pop(op[1], None)
-    return accounts
+            self.accounts[op[1]] = op[2]
+        self.ops.append(op)
+
+    def active(self, at, end):
+        """The first place from `at` on with an Update that is its key's last operation, else the end."""
+        while at < end and (self.ops[at][0] != "update" or self.last[self.ops[at][1]] != at):
+            at += 1
+        return at
+
+    def append(self, changes):
+        """A batch: its changes, for each of them a copy of an old active operation from the floor on while there is
+        one, and a commit whose floor is the first active operation's place, else its own. A copied operation isn't
+        active any more, so one walk finds them all, and the next batch's goes on where it ended."""
+        old, at = len(self.ops), self.floor - self.start
+        for op in changes:
+            self.put(op)
+        for _ in changes:
+            at = self.active(at, old)
+            if at < old:
+                self.put(self.ops[at])
+        self.put(("commit", self.start + self.active(at, len(self.ops))))
 
 
 class Sums:
@@ -184,13 +213,11 @@ def settled(accounts, payments):
     return sums, offences(accounts, sums)
 
 
-def append(ops, accounts, sums):
-    for key in sums.debits:
-        end = after(accounts, sums, key)
-        if end == accounts.get(key, (0, 0)):
-            continue
-        ops.append(("delete", key) if end == (0, 0) else ("update", key, end))
-    ops.append(("commit", 0))
+def changes(accounts, sums):
+    """One operation for each key whose account changes, in order of first touch."""
+    ends = ((key, after(accounts, sums, key)) for key in sums.debits)
+    changed = [(key, end) for key, end in ends if end != accounts.get(key, (0, 0))]
+    return [("delete", key) if end == (0, 0) else ("update", key, end) for key, end in changed]
 
 
 def choose(accounts, rounds):
@@ -212,22 +239,21 @@ def report(ops, start, end, blocks):
     before, ops = ops[:start], ops[start:end]
     if ops[-1][0] != "commit" or not start <= ops[-1][1] < end:
         return [f"error log {end - 1}\n"], 8
-    out = [f"synced {start} {end}"]
+    out, log = [f"synced {start} {end}"], Log(ops, start)
     for place, (kind, content) in enumerate(blocks):
-        accounts = replay(ops)
         if kind == "body":
-            sums, found = settled(accounts, content)
+            sums, found = settled(log.accounts, content)
             if found:
                 return [f"error {word} {place} {key_text(key)}\n" for word, key in found], 9
             out.append(f"block {place} body")
         else:
-            taken, verdicts = choose(accounts, content)
-            sums, _ = settled(accounts, taken)
+            taken, verdicts = choose(log.accounts, content)
+            sums, _ = settled(log.accounts, taken)
             out.append(f"block {place} rounds" + "".join(" " + (v or "-") for v in verdicts))
-        append(ops, accounts, sums)
-    for key, (balance, nonce) in sorted(replay(ops).items()):
+        log.append(changes(log.accounts, sums))
+    for key, (balance, nonce) in sorted(log.accounts.items()):
         out.append(f"account {key_text(key)} {balance} {nonce}")
-    ops = before + ops
+    ops = before + log.ops
     out += [f"size {len(ops)}", f"root {root([spelling(op) for op in ops]).hex()}"]
     return ["\n".join(out) + "\n"], 0
 

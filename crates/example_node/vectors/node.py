@@ -1,11 +1,13 @@
 #!/usr/bin/env python3
-"""What the node prints, worked out without it: dictionaries of wallets, and the bytes and roots of docs/FORMATS.md.
+"""What the node prints, worked out without it: dictionaries of wallets, and the logs, bytes and roots of docs/FORMATS.md.
+A wallet's value has its coins and points where an account of the program has its balance and nonce.
 `python3 node.py > ../stdout` writes the text that the program has to print."""
 import pathlib
 import sys
 
 sys.path.insert(0, str(pathlib.Path(__file__).resolve().parents[3] / "tests"))
-from rules import be64, commit, root, update  # noqa: E402
+from reference import Log, spelling  # noqa: E402
+from rules import root  # noqa: E402
 
 MAX = 2**64 - 1
 OPENED = {"a": (100, 0), "b": (50, 3), "s": (20, 0)}
@@ -14,9 +16,8 @@ BODY = [("redeem", "b", 8)]
 TOO_MUCH = [("buy", "a", 60), ("redeem", "b", 30)]
 
 
-def written(letter, wallet):
-    coins, points = wallet
-    return update(letter.encode() * 32, be64(coins) + be64(points) + bytes(16))
+def written(wallets):
+    return [("update", letter.encode() * 32, wallet) for letter, wallet in wallets.items()]
 
 
 class Ends(Exception):
@@ -59,16 +60,16 @@ def settles(wallets, orders):
     return True
 
 
-def append(ops, wallets, orders):
+def append(log, wallets, orders):
     changed = settled(wallets, orders)
-    ops += [written(name, wallet) for name, wallet in changed.items()] + [commit(0)]
+    log.append(written(changed))
     wallets.update(changed)
 
 
 def shopping():
-    ops = [commit(0)] + [written(name, wallet) for name, wallet in OPENED.items()] + [commit(0)]
+    log = Log([("commit", 0), *written(OPENED), ("commit", 0)])
     wallets = dict(OPENED)
-    yield f"synced 0 to {len(ops)}"
+    yield f"synced 0 to {len(log.ops)}"
     taken, words = [], []
     for candidates in ROUNDS:
         digits = ""
@@ -77,14 +78,14 @@ def shopping():
             taken += [order] if good else []
             digits += "1" if good else "0"
         words.append(digits)
-    append(ops, wallets, taken)
+    append(log, wallets, taken)
     yield "block 0: of each round " + " ".join(words)
-    append(ops, wallets, BODY)
+    append(log, wallets, BODY)
     yield "block 1: settled"
     for name, (coins, points) in sorted(wallets.items()):
         yield f"wallet {name}: {coins} coins, {points} points"
-    yield f"size {len(ops)}"
-    yield f"root {root(ops).hex()}"
+    yield f"size {len(log.ops)}"
+    yield f"root {root([spelling(op) for op in log.ops]).hex()}"
 
 
 def too_much():

@@ -1,14 +1,10 @@
 //! Worked cases. Roots and frames are those of vectors/cases.py.
 
-mod binding;
+mod copies;
 mod damage;
 mod ends;
-mod failing;
-mod forged;
-mod four;
 mod later;
 mod orders;
-mod program;
 mod rows;
 mod vectors;
 

@@ -4,6 +4,7 @@ import pathlib
 import sys
 
 sys.path.insert(0, str(pathlib.Path(__file__).resolve().parents[3] / "tests"))
+from reference import Log, spelling  # noqa: E402
 from rules import answer, be64, commit, frame, heights, leaves_of, node, peaks, root, root_of, varint  # noqa: E402
 from rules import update as written  # noqa: E402
 
@@ -39,9 +40,31 @@ def rising(asked):
     return b"".join(frame(ask(1 + i, end, a, b - a, i == 0)) for i, (end, a, b) in enumerate(asked))
 
 
-# The log of four accounts, and what one payment of 1 from the first to the second makes of it.
-FOUR = [commit(0)] + [update(key, account(10 * key, key)) for key in (1, 2, 3, 4)] + [commit(0)]
-PAID = FOUR + [update(1, account(9, 2)), update(2, account(21, 2)), commit(0)]
+def opened(accounts):
+    """The operations of a log that opens these accounts, each at the key that repeats its byte."""
+    return [("commit", 0)] + [("update", bytes([key]) * 32, account) for key, account in accounts.items()] + [("commit", 0)]
+
+
+def grown(accounts, changed):
+    """The spelled operations of such a log with a batch behind it that changes some accounts to these."""
+    log = Log(opened(accounts))
+    log.append([("update", bytes([key]) * 32, account) for key, account in changed.items()])
+    return [spelling(op) for op in log.ops]
+
+
+# The log of four accounts, what one payment of 1 from the first to the second makes of it, and the log with the same
+# two changes and a commit that keeps the floor.
+ACCOUNTS = {key: (10 * key, key) for key in (1, 2, 3, 4)}
+FOUR = [spelling(op) for op in opened(ACCOUNTS)]
+PAID = grown(ACCOUNTS, {1: (9, 2), 2: (21, 2)})
+NINE = PAID[:8] + [commit(0)]
+
+# Logs that open with accounts of 10: a payment of the third to a fourth one moves the two that are left, one of the
+# fourth to itself moves the first, and an empty block moves none.
+TENS = [{key: (10, 0) for key in range(1, count + 1)} for count in range(5)]
+TWO_MOVED = grown(TENS[3], {3: (9, 1), 4: (1, 0)})
+ONE_MOVED = grown(TENS[4], {4: (10, 1)})
+NONE_MOVED = grown(TENS[1], {})
 
 # The log of twelve commits.
 TWELVE = [commit(min(i, 5)) for i in range(12)]
@@ -55,29 +78,24 @@ LONG = [b"\1" + be64(i) + bytes(24) for i in range(299)] + [commit(0)]
 
 
 def late(start):
-    """The root of a log whose nodes are bytes that count up, with a commit at `start`; and after one more."""
+    """The root of a log whose nodes are bytes that count up, with a commit at `start`, which is its floor; and after one
+    more, whose floor is its own place, since no operation is active."""
     nodes = [bytes([i]) * 32 for i in range(len(heights(start)))]
     nodes = pushed(start, nodes, leaves_of([commit(start)], start)[0])
     first = root_of(start + 1, nodes)
     if start + 1 == 2**62:
         return first, None
-    nodes = pushed(start + 1, nodes, leaves_of([commit(start)], start + 1)[0])
+    nodes = pushed(start + 1, nodes, leaves_of([commit(start + 1)], start + 1)[0])
     return first, root_of(start + 2, nodes)
-
-
-def account_leaf(at, value):
-    """What the leaf of the account with this value at the key of zeros is hashed from."""
-    return b"\0" + be64(at) + update(0, value)
-
-
-def weak(data):
-    """30 zero bytes, then the sum of all bytes modulo 65,536."""
-    return bytes(30) + (sum(data) % 65536).to_bytes(2, "big")
 
 
 def constants():
     yield "ROOT_FOUR", "The root of the log of four accounts.", root(FOUR)
     yield "ROOT_PAID", "Its root after a payment of 1 from the first account to the second.", root(PAID)
+    yield "ROOT_NINE", "Its root after the same changes and a commit that keeps the floor.", root(NINE)
+    yield "ROOT_TWO_MOVED", "The root of a log of three accounts after the third paid a new one.", root(TWO_MOVED)
+    yield "ROOT_ONE_MOVED", "The root of a log of four accounts after the last one paid itself.", root(ONE_MOVED)
+    yield "ROOT_NONE_MOVED", "The root of a log of one account after an empty block.", root(NONE_MOVED)
     yield "ROOT_TWELVE", "The root of the log of twelve commits.", root(TWELVE)
     leaves = leaves_of(TWELVE)
     five = peaks(leaves[:5])
@@ -108,10 +126,6 @@ def constants():
     last = [(9, 6, 8), (9, 8, 9)]
     yield "RISEN_ONE", "The asks one at a time, where the end is 9 from the second answer on.", rising([(6, 0, 2), (6, 2, 4), (9, 4, 6)] + last)
     yield "RISEN_THREE", "The asks three at a time.", rising([(6, 0, 2), (6, 2, 4), (6, 4, 6)] + last)
-    honest, forged = bytes([1] * 32), bytes([2, 0] + [1] * 30)
-    assert weak(account_leaf(1, honest)) == weak(account_leaf(1, forged))
-    yield "HONEST", "What the leaf of an account at place 1 is hashed from.", account_leaf(1, honest)
-    yield "FORGED", "What another one is, whose bytes have the same sum.", account_leaf(1, forged)
 
 
 if __name__ == "__main__":

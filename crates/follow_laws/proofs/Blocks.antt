@@ -1,5 +1,5 @@
 -- Blocks over one list of operations run in one way, and have one cause to have no report.
-use Rattle.std.proofs.Common.{◌≡◌, ◌⊎◌, ℕ, zero, suc, ◌+◌, ◌^◌, ◌<◌, ◌≤◌, Bool, List, [], ◌∷◌, ◌++◌, length, take, drop, map, Option, Some, None, refl, sym, ap, subst, ◌∙◌, arith, true≢false, inl, inr}
+use Rattle.std.proofs.Common.{◌≡◌, ℕ, zero, suc, ◌+◌, ◌^◌, ◌<◌, ◌≤◌, Bool, List, [], ◌∷◌, ◌++◌, length, take, drop, map, Some, refl, sym, ap, subst, ◌∙◌, arith, true≢false, inl, inr}
 use Rattle.std.specs.Prelude.{All, slice_get, is_some, unwrap_or, get_or}
 use Rattle.std.specs.List.{AllByRecursion}
 use Rattle.std.proofs.lemmas.Bool.{cases_lt}
@@ -73,44 +73,44 @@ module _ {T A E : Type 0} (m : Meaning T A E) where
       ap Verdicts (one_cut vs ws (greedy_once (IsSettled m ops) [] (joined rounds) (joined vs) (joined ws) s.0 t.0) (s.1 ∙ sym t.1))
 
   -- blocks run in one way
-  pub one_run : (bs : List (Block T)) (vs ws : List BlockVerdicts) (ops all other : List AnyOp) → RunsTo m ops bs vs all → RunsTo m ops bs ws other → (vs ≡ ws) × (all ≡ other)
-  one_run [] [] [] ops all other h k = (refl, h ∙ sym k)
-  one_run [] [] (w ∷ ws) ops all other h k = absurd k
-  one_run [] (v ∷ vs) ws ops all other h k = absurd h
-  one_run (b ∷ bs) [] ws ops all other h k = absurd h
-  one_run (b ∷ bs) (v ∷ vs) [] ops all other h k = absurd k
-  one_run (b ∷ bs) (v ∷ vs) (w ∷ ws) ops all other h k =
+  pub one_run : (start : ℕ) (bs : List (Block T)) (vs ws : List BlockVerdicts) (ops all other : List AnyOp) → RunsTo m start ops bs vs all → RunsTo m start ops bs ws other → (vs ≡ ws) × (all ≡ other)
+  one_run start [] [] [] ops all other h k = (refl, h ∙ sym k)
+  one_run start [] [] (w ∷ ws) ops all other h k = absurd k
+  one_run start [] (v ∷ vs) ws ops all other h k = absurd h
+  one_run start (b ∷ bs) [] ws ops all other h k = absurd h
+  one_run start (b ∷ bs) (v ∷ vs) [] ops all other h k = absurd k
+  one_run start (b ∷ bs) (v ∷ vs) (w ∷ ws) ops all other h k =
       let same : v ≡ w = one_verdict ops b v w h.0 k.0 in
-      let r = one_run bs vs ws (grown m ops (batch_of b v)) all other h.1 (subst (λ (u : BlockVerdicts). RunsTo m (grown m ops (batch_of b u)) bs ws other) (sym same) k.1) in
+      let r = one_run start bs vs ws (grown m start ops (batch_of b v)) all other h.1 (subst (λ (u : BlockVerdicts). RunsTo m start (grown m start ops (batch_of b u)) bs ws other) (sym same) k.1) in
       (ap (λ x. x ∷ vs) same ∙ ap (λ xs. w ∷ xs) r.0, r.1)
 
-  grows : (ops : List AnyOp) (batch : List T) → length ops ≤ length (grown m ops batch)
-  grows ops batch = let e = length-append ops (appended m.same m.rules m.values ops (touches m.changes_of batch)) in omega arith
+  grows : (start : ℕ) (ops : List AnyOp) (batch : List T) → length ops ≤ length (grown m start ops batch)
+  grows start ops batch = let e = length-append ops (appended m.same m.rules m.values start ops (touches m.changes_of batch)) in omega arith
 
-  runs_on : (bs : List (Block T)) (vs : List BlockVerdicts) (ops all : List AnyOp) → RunsTo m ops bs vs all → length ops ≤ length all
-  runs_on [] [] ops all e = let n = ap length e in omega arith
-  runs_on [] (v ∷ vs) ops all e = absurd e
-  runs_on (b ∷ bs) [] ops all e = absurd e
-  runs_on (b ∷ bs) (v ∷ vs) ops all e = let n = grows ops (batch_of b v) in let k = runs_on bs vs (grown m ops (batch_of b v)) all e.1 in omega arith
+  runs_on : (start : ℕ) (bs : List (Block T)) (vs : List BlockVerdicts) (ops all : List AnyOp) → RunsTo m start ops bs vs all → length ops ≤ length all
+  runs_on start [] [] ops all e = let n = ap length e in omega arith
+  runs_on start [] (v ∷ vs) ops all e = absurd e
+  runs_on start (b ∷ bs) [] ops all e = absurd e
+  runs_on start (b ∷ bs) (v ∷ vs) ops all e = let n = grows start ops (batch_of b v) in let k = runs_on start bs vs (grown m start ops (batch_of b v)) all e.1 in omega arith
 
   -- a block's operations are among those to which all blocks grow
-  none_long : (bs : List (Block T)) (vs : List BlockVerdicts) (ops all : List AnyOp) → RunsTo m ops bs vs all
-      → (i : ℕ) (ws : List BlockVerdicts) (there : List AnyOp) (block : Block T) (v : BlockVerdicts) → RunsTo m ops (take i bs) ws there → slice_get bs i ≡ Some block → Settles m there block v → length (grown m there (batch_of block v)) ≤ length all
-  none_long [] vs ops all runs i ws there block v before at s = absurd (true≢false (sym (ap is_some at)))
-  none_long (b ∷ bs) [] ops all runs i ws there block v before at s = absurd runs
-  none_long (b ∷ bs) (u ∷ vs) ops all runs zero [] there block v before at s =
+  none_long : (start : ℕ) (bs : List (Block T)) (vs : List BlockVerdicts) (ops all : List AnyOp) → RunsTo m start ops bs vs all
+      → (i : ℕ) (ws : List BlockVerdicts) (there : List AnyOp) (block : Block T) (v : BlockVerdicts) → RunsTo m start ops (take i bs) ws there → slice_get bs i ≡ Some block → Settles m there block v → length (grown m start there (batch_of block v)) ≤ length all
+  none_long start [] vs ops all runs i ws there block v before at s = absurd (true≢false (sym (ap is_some at)))
+  none_long start (b ∷ bs) [] ops all runs i ws there block v before at s = absurd runs
+  none_long start (b ∷ bs) (u ∷ vs) ops all runs zero [] there block v before at s =
       let is : b ≡ block = some_is b block at in
       let here : Settles m ops b v = subst (λ c. Settles m ops c v) (sym is) (subst (λ us. Settles m us block v) before s) in
       let same : batch_of b v ≡ batch_of b u = one_batch m ops b v u here runs.0 in
-      let k = runs_on bs vs (grown m ops (batch_of b u)) all runs.1 in
-      let e : length (grown m there (batch_of block v)) ≡ length (grown m ops (batch_of b u)) =
-      ap (λ us. length (grown m us (batch_of block v))) before ∙ (ap (λ c. length (grown m ops (batch_of c v))) (sym is) ∙ ap (λ us. length (grown m ops us)) same) in
+      let k = runs_on start bs vs (grown m start ops (batch_of b u)) all runs.1 in
+      let e : length (grown m start there (batch_of block v)) ≡ length (grown m start ops (batch_of b u)) =
+      ap (λ us. length (grown m start us (batch_of block v))) before ∙ (ap (λ c. length (grown m start ops (batch_of c v))) (sym is) ∙ ap (λ us. length (grown m start ops us)) same) in
       omega arith
-  none_long (b ∷ bs) (u ∷ vs) ops all runs zero (w ∷ ws) there block v before at s = absurd before
-  none_long (b ∷ bs) (u ∷ vs) ops all runs (suc i) [] there block v before at s = absurd before
-  none_long (b ∷ bs) (u ∷ vs) ops all runs (suc i) (w ∷ ws) there block v before at s =
+  none_long start (b ∷ bs) (u ∷ vs) ops all runs zero (w ∷ ws) there block v before at s = absurd before
+  none_long start (b ∷ bs) (u ∷ vs) ops all runs (suc i) [] there block v before at s = absurd before
+  none_long start (b ∷ bs) (u ∷ vs) ops all runs (suc i) (w ∷ ws) there block v before at s =
       let same = one_batch m ops b w u before.0 runs.0 in
-      none_long bs vs (grown m ops (batch_of b u)) all runs.1 i ws there block v (subst (λ us. RunsTo m (grown m ops us) (take i bs) ws there) same before.1) at s
+      none_long start bs vs (grown m start ops (batch_of b u)) all runs.1 i ws there block v (subst (λ us. RunsTo m start (grown m start ops us) (take i bs) ws there) same before.1) at s
 
   -- ---- values that are no accounts
 
@@ -141,22 +141,22 @@ module _ {T A E : Type 0} (m : Meaning T A E) where
 
     -- ---- blocks before which others ran
 
-    unrejected : (i j : ℕ) (r : Rejection (List ℕ)) (vs : List BlockVerdicts) (all : List AnyOp) → i < j → IsRejected m start kept blocks i r → RunsTo m kept (take j blocks) vs all → ⊥
+    unrejected : (i j : ℕ) (r : Rejection (List ℕ)) (vs : List BlockVerdicts) (all : List AnyOp) → i < j → IsRejected m start kept blocks i r → RunsTo m start kept (take j blocks) vs all → ⊥
     unrejected i j r vs all lt h runs =
-        never_rejected m laws (take j blocks) vs kept all written runs i h.before.verdicts h.before.all h.batch r
-        (subst (λ (bs : List (Block T)). RunsTo m kept bs h.before.verdicts h.before.all) (sym (take_less blocks i j (omega arith))) h.before.runs) (get_less blocks i j lt ∙ h.at) h.offence
+        never_rejected m laws start (take j blocks) vs kept all written runs i h.before.verdicts h.before.all h.batch r
+        (subst (λ (bs : List (Block T)). RunsTo m start kept bs h.before.verdicts h.before.all) (sym (take_less blocks i j (omega arith))) h.before.runs) (get_less blocks i j lt ∙ h.at) h.offence
 
-    unfilled : (i j : ℕ) (vs : List BlockVerdicts) (all : List AnyOp) → i < j → IsFull m start kept blocks i → RunsTo m kept (take j blocks) vs all → start + length all ≤ 2 ^ 62 → ⊥
+    unfilled : (i j : ℕ) (vs : List BlockVerdicts) (all : List AnyOp) → i < j → IsFull m start kept blocks i → RunsTo m start kept (take j blocks) vs all → start + length all ≤ 2 ^ 62 → ⊥
     unfilled i j vs all lt h runs short =
-        let k = none_long (take j blocks) vs kept all runs i h.before.verdicts h.before.all h.block h.verdict
-        (subst (λ (bs : List (Block T)). RunsTo m kept bs h.before.verdicts h.before.all) (sym (take_less blocks i j (omega arith))) h.before.runs) (get_less blocks i j lt ∙ h.at) h.settles in
+        let k = none_long start (take j blocks) vs kept all runs i h.before.verdicts h.before.all h.block h.verdict
+        (subst (λ (bs : List (Block T)). RunsTo m start kept bs h.before.verdicts h.before.all) (sym (take_less blocks i j (omega arith))) h.before.runs) (get_less blocks i j lt ∙ h.at) h.settles in
         let l = h.long in
         omega arith
 
-    full_runs : (j : ℕ) (h : IsFull m start kept blocks j) → RunsTo m kept (take (suc j) blocks) (h.before.verdicts ++ h.verdict ∷ []) (grown m h.before.all (batch_of h.block h.verdict))
+    full_runs : (j : ℕ) (h : IsFull m start kept blocks j) → RunsTo m start kept (take (suc j) blocks) (h.before.verdicts ++ h.verdict ∷ []) (grown m start h.before.all (batch_of h.block h.verdict))
     full_runs j h =
-        subst (λ (bs : List (Block T)). RunsTo m kept bs (h.before.verdicts ++ h.verdict ∷ []) (grown m h.before.all (batch_of h.block h.verdict))) (sym (take_next blocks j h.block h.at))
-        (RunsTo-push m (take j blocks) h.before.verdicts kept h.before.all h.block h.verdict h.before.runs h.settles)
+        subst (λ (bs : List (Block T)). RunsTo m start kept bs (h.before.verdicts ++ h.verdict ∷ []) (grown m start h.before.all (batch_of h.block h.verdict))) (sym (take_next blocks j h.block h.at))
+        (RunsTo-push m start (take j blocks) h.before.verdicts kept h.before.all h.block h.verdict h.before.runs h.settles)
 
     one_rejected : (i j : ℕ) (r s : Rejection (List ℕ)) → IsRejected m start kept blocks i r → IsRejected m start kept blocks j s → i ≡ j
     one_rejected i j r s h k = elim (cases_lt i j) [
@@ -178,7 +178,7 @@ module _ {T A E : Type 0} (m : Meaning T A E) where
 
     not_either : (i j : ℕ) (r : Rejection (List ℕ)) → IsRejected m start kept blocks i r → IsFull m start kept blocks j → ⊥
     not_either i j r h k = elim (cases_lt i (suc j)) [
-      | inl lt ↦ unrejected i (suc j) r (k.before.verdicts ++ k.verdict ∷ []) (grown m k.before.all (batch_of k.block k.verdict)) lt h (full_runs j k)
+      | inl lt ↦ unrejected i (suc j) r (k.before.verdicts ++ k.verdict ∷ []) (grown m start k.before.all (batch_of k.block k.verdict)) lt h (full_runs j k)
       | inr ge ↦ unfilled j i h.before.verdicts h.before.all (omega arith) k h.before.runs h.before.short
     ]
 
@@ -208,15 +208,15 @@ module _ {T A E : Type 0} (m : Meaning T A E) where
     one_cause (Full a) (Full b) h k = inr (inr (ap faults.Full (one_full a b h.2 k.2)))
 
     -- blocks that ran have no cause but want of memory
-    pub no_cause : (c : ReportFault) (vs : List BlockVerdicts) (all : List AnyOp) → (IsWhole target.start kept) → All (IsReadable m.values) kept → RunsTo m kept blocks vs all → start + length all ≤ 2 ^ 62 → RunFails m target kept blocks c → IsFree (fault_of c)
+    pub no_cause : (c : ReportFault) (vs : List BlockVerdicts) (all : List AnyOp) → (IsWhole target.start kept) → All (IsReadable m.values) kept → RunsTo m start kept blocks vs all → start + length all ≤ 2 ^ 62 → RunFails m target kept blocks c → IsFree (fault_of c)
     no_cause OutOfMemory vs all whole read runs short h = tt
     no_cause (BadLog a) vs all whole read runs short h = absurd (h.1 whole)
     no_cause (BadValue a) vs all whole read runs short h = absurd (all_read start kept a read h.1)
     no_cause (Rejected i r) vs all whole read runs short h =
         let f = h.2 in
-        absurd (never_rejected m laws blocks vs kept all written runs i f.before.verdicts f.before.all f.batch r f.before.runs f.at f.offence)
+        absurd (never_rejected m laws start blocks vs kept all written runs i f.before.verdicts f.before.all f.batch r f.before.runs f.at f.offence)
     no_cause (Full i) vs all whole read runs short h =
         let f = h.2 in
-        let k = none_long blocks vs kept all runs i f.before.verdicts f.before.all f.block f.verdict f.before.runs f.at f.settles in
+        let k = none_long start blocks vs kept all runs i f.before.verdicts f.before.all f.block f.verdict f.before.runs f.at f.settles in
         let l = f.long in
         absurd (omega arith)

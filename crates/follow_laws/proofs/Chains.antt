@@ -1,6 +1,6 @@
 -- A report's log, served, is one that can be followed, and what comes of it goes on where the report ended.
-use Rattle.std.proofs.Common.{◌≡◌, ℕ, ◌+◌, ◌-◌, ◌^◌, ◌<◌, ◌≤◌, Bool, List, [], length, map, take, drop, All, Option, Some, None, Result, Ok, Err, refl, sym, ap, subst, ◌∙◌, arith}
-use Rattle.std.specs.Prelude.{count_ones, IsOkUnless, min}
+use Rattle.std.proofs.Common.{◌≡◌, ℕ, ◌+◌, ◌-◌, ◌^◌, ◌<◌, ◌≤◌, List, [], length, map, take, drop, All, Result, Ok, Err, refl, sym, ap, subst, ◌∙◌, arith}
+use Rattle.std.specs.Prelude.{count_ones, min}
 use Rattle.std.specs.Cmp.{IsEquivalence}
 use Rattle.std.specs.List.{AllByRecursion}
 use Rattle.std.proofs.lemmas.List.{take_all, length-map}
@@ -18,15 +18,16 @@ use Rattle.ledger_program.specs.Follow.{FollowsLog, Foretold, IsValid, IsSteady,
 use Rattle.ledger_program.specs.declared.fault.Fault.{Fault}
 use Rattle.ledger_program.specs.declared.fault.Fault.TheVariants as faults
 use Rattle.ledger_settling.proofs.CauseLemmas.{IsWritten}
+use Rattle.ledger_settling.proofs.FloorLemmas.{runs_whole}
 use Rattle.ledger_settling.proofs.OutcomeLemmas.{outcome_sym, outcome_trans}
-use Rattle.ledger_settling.specs.Blocks.{Meaning, IsReadable, RunsTo, account_at}
+use Rattle.ledger_settling.specs.Blocks.{Meaning, IsReadable, account_at}
 use Rattle.ledger_settling.specs.Reports.{ReportOf, IsWhole, held}
 use Rattle.ledger_settling.specs.declared.report.Report.{Report}
 use Rattle.ledger_transfers.specs.Rules.{SameOutcome}
 use Rattle.sync_client.specs.Serving.{Serves}
 use Rattle.sync_net.specs.Core.{data_of}
 use Rattle.follow_laws.specs.Chained.{Continues, KeepSound, LogTarget}
-use Rattle.follow_laws.proofs.Grown.{by_place, all_of, map_all, Fine, runs_whole, runs_front, runs_fine, no_blocks, zip_all}
+use Rattle.follow_laws.proofs.Grown.{by_place, all_of, map_all, Fine, runs_front, runs_fine, no_blocks, zip_all}
 
 -- where no answers on later targets are to come, the target is the one that is synced
 pub foretold : (log : LogView AnyOp) (target : Target) → Foretold log target [] [] target
@@ -55,12 +56,26 @@ never_rose result before now none h r = let e = stays result before now h in let
 
 module _ {T A E : Type 0} (m : Meaning T A E) (blocks : List (Block T)) (report : Report A) (of : ReportOf m report.target blocks report) where
   -- a report's log is whole
-  log_whole : IsWhole report.target.start report.log.ops
+  pub log_whole : IsWhole report.target.start report.log.ops
   log_whole = runs_whole m report.target.start blocks report.verdicts report.kept report.log.ops of.whole of.grows
 
   -- and has operations
   pub log_long : report.start < report.size
   log_long = let w = log_whole in let s = of.start in let n = of.size in let a = w.least in let b = w.most in omega arith
+
+  value_written : (op : AnyOp) → IsSoundAny op → IsWritten m op
+  value_written (Update key value) h = h.1
+  value_written (Delete key) h = tt
+  value_written (CommitFloor metadata floor) h = tt
+
+  -- each value in it is an account
+  pub readable_all : {IsSound : A → Type 0} → ValueLaws m.same IsSound m.rules m.values → KeepSound IsSound m.rules m.values → All IsSoundAny report.log.ops → AllByRecursion (IsReadable m.values) report.log.ops
+  readable_all laws keep sound =
+      let wrote : AllByRecursion (IsWritten m) report.log.ops = map_all IsSoundAny (IsWritten m) value_written report.log.ops (by_place IsSoundAny report.log.ops sound) in
+      let first : AllByRecursion (Fine m) report.kept =
+      zip_all (IsReadable m.values) (IsWritten m) report.kept (by_place (IsReadable m.values) report.kept of.readable) (runs_front m (IsWritten m) report.target.start blocks report.verdicts report.kept report.log.ops of.grows wrote) in
+      let fine : AllByRecursion (Fine m) report.log.ops = runs_fine m laws keep report.target.start blocks report.verdicts report.kept report.log.ops first of.grows in
+      map_all (Fine m) (IsReadable m.values) (λ op f. f.0) report.log.ops fine
 
   module _ (target : Target) (t : LogTarget report target) where
     pub front_is : target.start ≡ report.log.front
@@ -109,20 +124,11 @@ module _ {T A E : Type 0} (m : Meaning T A E) (blocks : List (Block T)) (report 
       root = root_is;
     }
 
-    value_written : (op : AnyOp) → IsSoundAny op → IsWritten m op
-    value_written (Update key value) h = h.1
-    value_written (Delete key) h = tt
-    value_written (CommitFloor metadata floor) h = tt
-
     -- without blocks it is valid
     pub valid_report : {IsSound : A → Type 0} → ValueLaws m.same IsSound m.rules m.values → KeepSound IsSound m.rules m.values → All IsSoundAny report.log.ops → report.size ≤ 2 ^ 62 → IsValid m report.log target []
     valid_report laws keep sound most =
         let start : report.target.start ≡ target.start = sym of.start ∙ sym t.start in
-        let wrote : AllByRecursion (IsWritten m) report.log.ops = map_all IsSoundAny (IsWritten m) value_written report.log.ops (by_place IsSoundAny report.log.ops sound) in
-        let first : AllByRecursion (Fine m) report.kept =
-        zip_all (IsReadable m.values) (IsWritten m) report.kept (by_place (IsReadable m.values) report.kept of.readable) (runs_front m (IsWritten m) blocks report.verdicts report.kept report.log.ops of.grows wrote) in
-        let fine : AllByRecursion (Fine m) report.log.ops = runs_fine m laws keep blocks report.verdicts report.kept report.log.ops first of.grows in
-        let readable : All (IsReadable m.values) report.log.ops = all_of (IsReadable m.values) report.log.ops (map_all (Fine m) (IsReadable m.values) (λ op f. f.0) report.log.ops fine) in
+        let readable : All (IsReadable m.values) report.log.ops = all_of (IsReadable m.values) report.log.ops (readable_all laws keep sound) in
         record {
           whole = subst (IsWhole target.start) (sym range_is) (subst (λ (n : ℕ). IsWhole n report.log.ops) start log_whole);
           readable = subst (All (IsReadable m.values)) (sym range_is) readable;
@@ -138,7 +144,7 @@ module _ {T A E : Type 0} (m : Meaning T A E) (blocks : List (Block T)) (report 
         let start : next.target.start ≡ report.target.start = h.0.start ∙ (t.start ∙ of.start) in
         let kept : next.kept ≡ report.log.ops = h.1 ∙ range_is in
         let pinned : next.pinned ≡ report.pinned = h.2 ∙ (nodes_are ∙ of.nodes) in
-        let ops : next.log.ops ≡ report.log.ops = no_blocks m next.verdicts next.kept next.log.ops is.grows ∙ kept in
+        let ops : next.log.ops ≡ report.log.ops = no_blocks m next.target.start next.verdicts next.kept next.log.ops is.grows ∙ kept in
         record {
           start = is.start ∙ (start ∙ sym of.start);
           pinned = pinned;

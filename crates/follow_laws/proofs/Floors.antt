@@ -1,14 +1,16 @@
 -- Where nothing that counts lies below the floor, the operations from there on have all values.
-use Rattle.std.proofs.Common.{◌≡◌, ◌⊎◌, ℕ, zero, suc, ◌+◌, ◌-◌, ◌<◌, ◌≤◌, Bool, true, false, cond, List, [], ◌∷◌, length, drop, Option, Some, None, refl, sym, ap, subst, ◌∙◌, arith, true≢false, bytes_eq, inl, inr}
-use Rattle.std.specs.Prelude.{slice_get, is_some, unwrap_or}
+use Rattle.std.proofs.Common.{◌≡◌, ◌⊎◌, ℕ, zero, suc, ◌+◌, ◌-◌, ◌<◌, ◌≤◌, Bool, true, false, cond, List, [], ◌∷◌, drop, Option, Some, None, refl, sym, ap, ◌∙◌, arith, true≢false, bytes_eq, inl, inr}
+use Rattle.std.specs.Prelude.{slice_get, is_some, is_none, unwrap_or}
 use Rattle.std.specs.List.{last_or, cons_option, filter_map}
 use Rattle.std.specs.Cmp.Lexicographic.{bytes_decides}
-use Rattle.ledger_log.specs.Any.{any_write}
-use Rattle.ledger_log.specs.View.{value_at, value_or_none, written_at}
+use Rattle.ledger_log.specs.Active.{counts, living}
+use Rattle.ledger_log.specs.Any.{any_floor, any_write}
+use Rattle.ledger_log.specs.Index.{last_write, place_after}
+use Rattle.ledger_log.specs.View.{LogView, log_floor, value_at, value_or_none, written_at}
 use Rattle.ledger_log.specs.declared.any.AnyOp.{AnyOp}
 use Rattle.ledger_log.specs.declared.any.AnyOp.TheVariants.{Update, Delete, CommitFloor}
-use Rattle.ledger_settling.specs.Blocks.{floor_of}
-use Rattle.follow_laws.specs.Replayed.{IsLastOf, IsFloorSound}
+use Rattle.ledger_raising.proofs.Rising.{Least, least_of_all}
+use Rattle.ledger_raising.specs.Raised.{FloorSound}
 
 module _ (key : List ℕ) where
   -- what an operation leaves at the key
@@ -68,47 +70,54 @@ module _ (key : List ℕ) where
       by None e rest = rest (gone_on x xs o e g)
       by (Some w) e rest = refl
 
-  -- no Update among the first n operations is the key's last
-  abbrev Unlast : ℕ → List AnyOp → Type 0
-  Unlast n ops = (place : ℕ) (value : List ℕ) → place < n → slice_get ops place ≡ Some (Update key value) → IsLastOf ops place key → ⊥
+  -- where none of them writes the key, it has no last write
+  unwritten : (xs : List AnyOp) → Silent xs → last_write any_write key xs ≡ None
+  unwritten [] s = refl
+  unwritten (x ∷ xs) s =
+      ap (λ (o : Option (Option (List ℕ))). place_after (is_some o) (last_write any_write key xs)) (s 0 x refl) ∙ ap (place_after false) (unwritten xs (λ i op q. s (suc i) op q))
 
-  unlast_on : (n : ℕ) (x : AnyOp) (xs : List AnyOp) → Unlast (suc n) (x ∷ xs) → Unlast n xs
-  unlast_on n x xs h place value lt at last = h (suc place) value (omega arith) at after
-    where
-      after : IsLastOf (x ∷ xs) (suc place) key
-      after zero op less q = absurd (omega arith)
-      after (suc later) op less q = last later op (omega arith) q
-
-  -- what an Update of the key leaves is written over later
-  update_over : (n : ℕ) (k value : List ℕ) (xs : List AnyOp) → Unlast (suc n) (Update k value ∷ xs) → bytes_eq k key ≡ true → Writes xs
-  update_over n k value xs h t = by (either xs)
+  -- what doesn't count before these operations is written over by them
+  update_over : (k value : List ℕ) (xs : List AnyOp) → counts any_write (any_write (Update k value)) xs ≡ false → bytes_eq k key ≡ true → Writes xs
+  update_over k value xs h t = by (either xs)
     where
       same : k ≡ key
       same = (bytes_decides k key).0 t
 
       by : Writes xs ⊎ Silent xs → Writes xs
       by (inl w) = w
-      by (inr s) = absurd (h 0 value (omega arith) (ap (λ (j : List ℕ). Some (Update j value)) same) after)
-        where
-          after : IsLastOf (Update k value ∷ xs) 0 key
-          after zero op less q = absurd (omega arith)
-          after (suc later) op less q = s later op q
+      by (inr s) = absurd (true≢false (sym (ap is_none (ap (λ (j : List ℕ). last_write any_write j xs) same ∙ unwritten xs s)) ∙ h))
 
-  dropped : (n : ℕ) (ops : List AnyOp) (o : Option (Option (List ℕ))) → Unlast n ops → Gone o ops → value_or_none (left_by o ops) ≡ value_or_none (left_by None (drop n ops))
-  dropped zero ops o h g = same_end o ops g
-  dropped (suc n) [] o h g = no_write o g
-  dropped (suc n) (Update k value ∷ xs) o h g = by (bytes_eq k key) refl (λ p q. dropped n xs p (unlast_on n (Update k value) xs h) q)
+  -- the first of some operations, which lies below the floor, doesn't count, and none behind it lies below
+  uncounted : (floor start : ℕ) (x : AnyOp) (xs : List AnyOp) → start < floor → Least floor (living any_write start (x ∷ xs)) → (counts any_write (any_write x) xs ≡ false) × Least floor (living any_write (start + 1) xs)
+  uncounted floor start x xs lt h = by (counts any_write (any_write x) xs) refl h
     where
-      by : (b : Bool) → bytes_eq k key ≡ b → ((p : Option (Option (List ℕ))) → Gone p xs → value_or_none (left_by p xs) ≡ value_or_none (left_by None (drop n xs))) → value_or_none (last_or o (cons_option (cond b (Some (Some value)) None) (filter_map leaves xs))) ≡ value_or_none (left_by None (drop n xs))
-      by true t rest = rest (Some (Some value)) (inr (update_over n k value xs h t))
-      by false t rest = rest o (gone_on (Update k value) xs o (ap (λ (b : Bool). cond b (Some (Some value)) None) t) g)
-  dropped (suc n) (Delete k ∷ xs) o h g = by (bytes_eq k key) refl (λ p q. dropped n xs p (unlast_on n (Delete k) xs h) q)
+      by : (b : Bool) → counts any_write (any_write x) xs ≡ b → Least floor (cond b ((start, x) ∷ living any_write (start + 1) xs) (living any_write (start + 1) xs)) → (counts any_write (any_write x) xs ≡ false) × Least floor (living any_write (start + 1) xs)
+      by true e h = absurd (let l = h.0 in omega (arith, lt, l))
+      by false e h = (e, h)
+
+  dropped : (floor start n : ℕ) (ops : List AnyOp) (o : Option (Option (List ℕ))) → start + n ≤ floor → Least floor (living any_write start ops) → Gone o ops → value_or_none (left_by o ops) ≡ value_or_none (left_by None (drop n ops))
+  dropped floor start zero ops o le h g = same_end o ops g
+  dropped floor start (suc n) [] o le h g = no_write o g
+  dropped floor start (suc n) (Update k value ∷ xs) o le h g =
+      let u = uncounted floor start (Update k value) xs (omega (arith, le)) h in
+      by (bytes_eq k key) refl u.0 (λ p q. dropped floor (start + 1) n xs p (omega (arith, le)) u.1 q)
+    where
+      by : (b : Bool) → bytes_eq k key ≡ b → counts any_write (any_write (Update k value)) xs ≡ false → ((p : Option (Option (List ℕ))) → Gone p xs → value_or_none (left_by p xs) ≡ value_or_none (left_by None (drop n xs)))
+          → value_or_none (last_or o (cons_option (cond b (Some (Some value)) None) (filter_map leaves xs))) ≡ value_or_none (left_by None (drop n xs))
+      by true t c rest = rest (Some (Some value)) (inr (update_over k value xs c t))
+      by false t c rest = rest o (gone_on (Update k value) xs o (ap (λ (b : Bool). cond b (Some (Some value)) None) t) g)
+  dropped floor start (suc n) (Delete k ∷ xs) o le h g =
+      let u = uncounted floor start (Delete k) xs (omega (arith, le)) h in
+      by (bytes_eq k key) refl (λ p q. dropped floor (start + 1) n xs p (omega (arith, le)) u.1 q)
     where
       by : (b : Bool) → bytes_eq k key ≡ b → ((p : Option (Option (List ℕ))) → Gone p xs → value_or_none (left_by p xs) ≡ value_or_none (left_by None (drop n xs))) → value_or_none (last_or o (cons_option (cond b (Some None) None) (filter_map leaves xs))) ≡ value_or_none (left_by None (drop n xs))
       by true t rest = rest (Some None) (inl refl)
       by false t rest = rest o (gone_on (Delete k) xs o (ap (λ (b : Bool). let w : Option (Option (List ℕ)) = cond b (Some None) None in w) t) g)
-  dropped (suc n) (CommitFloor metadata floor ∷ xs) o h g = dropped n xs o (unlast_on n (CommitFloor metadata floor) xs h) (gone_on (CommitFloor metadata floor) xs o refl g)
+  dropped floor start (suc n) (CommitFloor metadata at ∷ xs) o le h g =
+      let u = uncounted floor start (CommitFloor metadata at) xs (omega (arith, le)) h in
+      dropped floor (start + 1) n xs o (omega (arith, le)) u.1 (gone_on (CommitFloor metadata at) xs o refl g)
 
 -- the values of the operations from a place at or below the floor on are those of all
-pub values_above : (start : ℕ) (ops : List AnyOp) (n : ℕ) (key : List ℕ) → IsFloorSound start ops → start + n ≤ floor_of ops → value_at any_write key ops ≡ value_at any_write key (drop n ops)
-values_above start ops n key sound below = dropped key n ops None (λ place value lt at last. absurd (let f = sound place key value at last in omega arith)) (inl refl)
+pub values_above : (log : LogView AnyOp) (n : ℕ) (key : List ℕ) → FloorSound any_floor any_write log → log.front + n ≤ log_floor any_floor log → value_at any_write key log.ops ≡ value_at any_write key (drop n log.ops)
+values_above log n key sound below =
+    dropped key (log_floor any_floor log) log.front n log.ops None below (least_of_all (log_floor any_floor log) (living any_write log.front log.ops) sound) (inl refl)

@@ -1,32 +1,30 @@
--- Blocks that settle leave a log that can be followed: it ends in a commit, and each value in it is an account.
-use Rattle.std.proofs.Common.{◌≡◌, ℕ, zero, suc, ◌+◌, ◌-◌, ◌<◌, ◌≤◌, Bool, true, false, cond, List, [], ◌∷◌, ◌++◌, length, map, Option, Some, None, refl, sym, ap, subst, ◌∙◌, arith, true≢false, append_assoc, bytes_eq, inl, inr, ◌⊎◌}
-use Rattle.std.specs.Prelude.{All, is_some, unwrap_or, option_map, option_and_then, IsSome, MatchBool, ⊤}
+-- Blocks that settle leave a log that can be followed: each value in it is an account.
+use Rattle.std.proofs.Common.{◌≡◌, ℕ, ◌+◌, ◌-◌, Bool, true, false, cond, List, [], ◌∷◌, ◌++◌, map, Option, Some, None, refl, sym, ap, subst, true≢false, append_assoc, bytes_eq, inl, inr, ◌⊎◌}
+use Rattle.std.specs.Prelude.{All, is_some, unwrap_or, option_map, option_and_then, MatchBool, ⊤}
 use Rattle.std.specs.List.{AllByRecursion, list_any, last_or, cons_option, filter_map}
-use Rattle.std.proofs.lemmas.List.{length-append, append-nil}
+use Rattle.std.proofs.lemmas.List.{append-nil}
 use Rattle.std.proofs.lemmas.List.Elements.{All-nil, All-cons, All-head, All-tail}
 use Rattle.std.specs.Cmp.Lexicographic.{nat_list_eq_equiv, bytes_decides}
 use Rattle.ledger_job.specs.declared.block.Block.{Block}
 use Rattle.ledger_job.specs.declared.block.Block.TheVariants.{Body, Rounds}
 use Rattle.ledger_job.specs.declared.block.BlockVerdicts.{BlockVerdicts}
 use Rattle.ledger_job.specs.declared.block.BlockVerdicts.TheVariants.{Body as NoVerdicts, Rounds as Verdicts}
-use Rattle.ledger_log.specs.Any.{any_floor, any_write}
+use Rattle.ledger_log.specs.Any.{any_write}
 use Rattle.ledger_log.specs.Spelling.{Is32Bytes}
-use Rattle.ledger_log.specs.View.{last_floor, value_at, value_or_none, written_at}
+use Rattle.ledger_log.specs.View.{value_at, value_or_none, written_at}
 use Rattle.ledger_log.specs.declared.any.AnyOp.{AnyOp}
 use Rattle.ledger_log.specs.declared.any.AnyOp.TheVariants.{Update, Delete, CommitFloor}
 use Rattle.ledger_managed.specs.Values.{ValueLaws}
-use Rattle.ledger_settling.proofs.AppendLemmas.{floor_is, firsts_all, touched_all}
+use Rattle.ledger_settling.proofs.ApplyLemmas.{firsts_all, touched_all}
 use Rattle.ledger_settling.proofs.CauseLemmas.{IsWritten}
+use Rattle.ledger_settling.proofs.RaisedLemmas.{raised_all}
 use Rattle.ledger_settling.proofs.ReplayLemmas.{some_read}
-use Rattle.ledger_settling.specs.Blocks.{Meaning, IsReadable, IsSettled, Settles, RunsTo, account_at, batch_of, grown, appended, changed, firsts, floor_of, joined, opening, slot_at, written}
-use Rattle.ledger_settling.specs.Reports.{IsWhole}
+use Rattle.ledger_settling.specs.Blocks.{Meaning, IsReadable, IsSettled, Settles, RunsTo, batch_of, grown, appended, changed, firsts, joined, log_from, opening, slot_at, written}
 use Rattle.ledger_transfers.proofs.BatchLemmas.{settles_key}
 use Rattle.ledger_transfers.specs.Greedy.{AreGreedy, taken}
-use Rattle.ledger_transfers.specs.Rules.{SameOutcome}
 use Rattle.ledger_transfers.specs.Settling.{Settles as SettlesOne, folded, opened, after, final_balance, slot_of}
-use Rattle.ledger_transfers.specs.Touches.{touches, total_of, max_amount}
+use Rattle.ledger_transfers.specs.Touches.{touches, total_of}
 use Rattle.ledger_transfers.specs.declared.change.Change.{Change}
-use Rattle.ledger_transfers.specs.declared.slot.Slot.{Slot}
 use Rattle.ledger_transfers.specs.declared.slot.Slot.TheVariants.{Keep, Put, Delete as Remove}
 use Rattle.ledger_transfers.specs.declared.totals.Totals.{Totals}
 use Rattle.follow_laws.specs.Chained.{KeepSound}
@@ -41,10 +39,6 @@ pub all_of : {X : Type 0} (P : X → Type 0) (xs : List X) → AllByRecursion P 
 all_of P [] h = All-nil P
 all_of P (x ∷ xs) h = All-cons P x xs h.0 (all_of P xs h.1)
 
-both_append : {X : Type 0} (P : X → Type 0) (xs ys : List X) → AllByRecursion P xs → AllByRecursion P ys → AllByRecursion P (xs ++ ys)
-both_append P [] ys h k = k
-both_append P (x ∷ xs) ys h k = (h.0, both_append P xs ys h.1 k)
-
 front_of : {X : Type 0} (P : X → Type 0) (xs ys : List X) → AllByRecursion P (xs ++ ys) → AllByRecursion P xs
 front_of P [] ys h = tt
 front_of P (x ∷ xs) ys h = (h.0, front_of P xs ys h.1)
@@ -57,40 +51,19 @@ pub zip_all : {X : Type 0} (P Q : X → Type 0) (xs : List X) → AllByRecursion
 zip_all P Q [] h k = tt
 zip_all P Q (x ∷ xs) h k = ((h.0, k.0), zip_all P Q xs h.1 k.1)
 
--- ---- the last commit
-
-last_snoc : (xs : List AnyOp) (f : ℕ) → last_floor any_floor (xs ++ CommitFloor None f ∷ []) ≡ Some f
-last_snoc [] f = refl
-last_snoc (x ∷ []) f = refl
-last_snoc (x ∷ y ∷ ys) f = last_snoc (y ∷ ys) f
-
 module _ {T A E : Type 0} (m : Meaning T A E) where
-  grown_whole : (start : ℕ) (ops : List AnyOp) (batch : List T) → IsWhole start ops → IsWhole start (grown m ops batch)
-  grown_whole start ops batch w =
-      let new : List AnyOp = changed m.same m.rules m.values ops (touches m.changes_of batch) in
-      let e : last_floor any_floor (grown m ops batch) ≡ Some (floor_of ops) = ap (last_floor any_floor) (sym (append_assoc ops new (CommitFloor None (floor_of ops) ∷ []))) ∙ last_snoc (ops ++ new) (floor_of ops) in
-      let n = length-append ops (appended m.same m.rules m.values ops (touches m.changes_of batch)) in
-      let most = w.most in
-      record { floor = w.floor; commits = e ∙ ap Some (floor_is ops w.floor w.commits); least = w.least; most = omega arith }
-
-  -- what blocks leave ends in a commit too
-  pub runs_whole : (start : ℕ) (bs : List (Block T)) (vs : List BlockVerdicts) (ops all : List AnyOp) → IsWhole start ops → RunsTo m ops bs vs all → IsWhole start all
-  runs_whole start [] [] ops all w e = subst (IsWhole start) (sym e) w
-  runs_whole start [] (v ∷ vs) ops all w e = absurd e
-  runs_whole start (b ∷ bs) [] ops all w e = absurd e
-  runs_whole start (b ∷ bs) (v ∷ vs) ops all w e = runs_whole start bs vs (grown m ops (batch_of b v)) all (grown_whole start ops (batch_of b v) w) e.1
-
   -- what holds of what blocks leave holds of what they begin with
-  pub runs_front : (P : AnyOp → Type 0) (bs : List (Block T)) (vs : List BlockVerdicts) (ops all : List AnyOp) → RunsTo m ops bs vs all → AllByRecursion P all → AllByRecursion P ops
-  runs_front P [] [] ops all e h = subst (AllByRecursion P) e h
-  runs_front P [] (v ∷ vs) ops all e h = absurd e
-  runs_front P (b ∷ bs) [] ops all e h = absurd e
-  runs_front P (b ∷ bs) (v ∷ vs) ops all e h = front_of P ops (appended m.same m.rules m.values ops (touches m.changes_of (batch_of b v))) (runs_front P bs vs (grown m ops (batch_of b v)) all e.1 h)
+  pub runs_front : (P : AnyOp → Type 0) (start : ℕ) (bs : List (Block T)) (vs : List BlockVerdicts) (ops all : List AnyOp) → RunsTo m start ops bs vs all → AllByRecursion P all → AllByRecursion P ops
+  runs_front P start [] [] ops all e h = subst (AllByRecursion P) e h
+  runs_front P start [] (v ∷ vs) ops all e h = absurd e
+  runs_front P start (b ∷ bs) [] ops all e h = absurd e
+  runs_front P start (b ∷ bs) (v ∷ vs) ops all e h =
+      front_of P ops (appended m.same m.rules m.values start ops (touches m.changes_of (batch_of b v))) (runs_front P start bs vs (grown m start ops (batch_of b v)) all e.1 h)
 
   -- without blocks nothing is appended
-  pub no_blocks : (vs : List BlockVerdicts) (ops all : List AnyOp) → RunsTo m ops [] vs all → all ≡ ops
-  no_blocks [] ops all e = e
-  no_blocks (v ∷ vs) ops all e = absurd e
+  pub no_blocks : (start : ℕ) (vs : List BlockVerdicts) (ops all : List AnyOp) → RunsTo m start ops [] vs all → all ≡ ops
+  no_blocks start [] ops all e = e
+  no_blocks start (v ∷ vs) ops all e = absurd e
 
   -- ---- the batch of a block is settled
 
@@ -199,20 +172,20 @@ module _ {T A E : Type 0} (m : Meaning T A E) where
         by None e = tt
         by (Some x) e = put x (m.same x a) (m.same x m.rules.initial) (after_sound a x total s k e)
 
-    grown_fine : (ops : List AnyOp) (batch : List T) → AllByRecursion Fine ops → IsSettled m ops batch → AllByRecursion Fine (grown m ops batch)
-    grown_fine ops batch h s =
+    grown_fine : (start : ℕ) (ops : List AnyOp) (batch : List T) → AllByRecursion Fine ops → IsSettled m ops batch → AllByRecursion Fine (grown m start ops batch)
+    grown_fine start ops batch h s =
         let ts : List (List ℕ × Change E) = touches m.changes_of batch in
         let wrote : AllByRecursion (IsWritten m) ops = map_all Fine (IsWritten m) (λ op f. f.1) ops h in
         let each : (k : List ℕ) → list_any (λ t. bytes_eq k t.0) ts ≡ true → FineIf (written m.values k (slot_at m.same m.rules m.values ops ts k)) =
         λ k t. slot_fine k (opening m ops k) (total_of bytes_eq ts k) (opening_sound ops wrote k)
         (settles_key bytes_eq nat_list_eq_equiv m.same m.rules (opening m ops) (λ a b e. ap (opening m ops) ((bytes_decides a b).0 e)) ts k s t) in
         let keys = firsts_all bytes_eq (λ k. FineIf (written m.values k (slot_at m.same m.rules m.values ops ts k))) (map (λ t. t.0) ts) (touched_all (λ k. FineIf (written m.values k (slot_at m.same m.rules m.values ops ts k))) ts each) in
-        both_append Fine ops (appended m.same m.rules m.values ops ts) h
-        (both_append Fine (changed m.same m.rules m.values ops ts) (CommitFloor None (floor_of ops) ∷ []) (fine_map (λ k. written m.values k (slot_at m.same m.rules m.values ops ts k)) (firsts bytes_eq (map (λ t. t.0) ts)) keys) ((tt, tt), tt))
+        raised_all Fine (log_from start ops) (changed m.same m.rules m.values ops ts) h
+        (fine_map (λ k. written m.values k (slot_at m.same m.rules m.values ops ts k)) (firsts bytes_eq (map (λ t. t.0) ts)) keys) (λ floor. (tt, tt))
 
     -- each value in what blocks leave is an account
-    pub runs_fine : (bs : List (Block T)) (vs : List BlockVerdicts) (ops all : List AnyOp) → AllByRecursion Fine ops → RunsTo m ops bs vs all → AllByRecursion Fine all
-    runs_fine [] [] ops all h e = subst (AllByRecursion Fine) (sym e) h
-    runs_fine [] (v ∷ vs) ops all h e = absurd e
-    runs_fine (b ∷ bs) [] ops all h e = absurd e
-    runs_fine (b ∷ bs) (v ∷ vs) ops all h e = runs_fine bs vs (grown m ops (batch_of b v)) all (grown_fine ops (batch_of b v) h (batch_settled ops b v e.0)) e.1
+    pub runs_fine : (start : ℕ) (bs : List (Block T)) (vs : List BlockVerdicts) (ops all : List AnyOp) → AllByRecursion Fine ops → RunsTo m start ops bs vs all → AllByRecursion Fine all
+    runs_fine start [] [] ops all h e = subst (AllByRecursion Fine) (sym e) h
+    runs_fine start [] (v ∷ vs) ops all h e = absurd e
+    runs_fine start (b ∷ bs) [] ops all h e = absurd e
+    runs_fine start (b ∷ bs) (v ∷ vs) ops all h e = runs_fine start bs vs (grown m start ops (batch_of b v)) all (grown_fine start ops (batch_of b v) h (batch_settled ops b v e.0)) e.1

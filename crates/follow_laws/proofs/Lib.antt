@@ -10,6 +10,7 @@ pub mod Grown
 pub mod Floors
 pub mod Chains
 pub mod Replays
+pub mod Above
 pub mod Sequences
 pub mod Digests
 pub mod Pieces

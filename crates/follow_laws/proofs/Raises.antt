@@ -1,24 +1,23 @@
 -- The log whose floor was raised is served from there, and nothing that counts lies below.
-use Rattle.std.proofs.Common.{◌≡◌, ℕ, zero, suc, ◌+◌, ◌<◌, ◌≤◌, ◌^◌, List, [], ◌∷◌, All, Option, Some, None, refl, sym, ap, subst, ◌∙◌, arith, lit≤, lit<}
+use Rattle.std.proofs.Common.{◌≡◌, ℕ, zero, suc, ◌<◌, ◌≤◌, ◌^◌, List, [], ◌∷◌, All, None, refl, sym, subst, arith, lit≤, lit<}
 use Rattle.std.specs.Prelude.{get_or, replicate}
 use Rattle.std.proofs.lemmas.List.Elements.{All-cons, All-nil}
-use Rattle.sha2.specs.Sha256.{sha256}
+use Rattle.ledger_log.specs.Active.{living}
 use Rattle.ledger_log.specs.Any.{any_floor, any_spelling, any_write, IsSoundAny}
-use Rattle.ledger_log.specs.Spelling.{Is32Bytes}
-use Rattle.ledger_log.specs.View.{written_at}
+use Rattle.ledger_log.specs.View.{log_floor}
 use Rattle.ledger_log.specs.declared.any.AnyOp.{AnyOp}
-use Rattle.ledger_log.specs.declared.any.AnyOp.TheVariants.{Update, CommitFloor}
+use Rattle.ledger_log.specs.declared.any.AnyOp.TheVariants.{CommitFloor}
 use Rattle.ledger_log.specs.declared.target.Target.{Target}
-use Rattle.ledger_managed.specs.Spelled.{sequenced_value}
 use Rattle.ledger_managed.specs.SpelledProofs.{sequenced_value_laws}
 use Rattle.ledger_program.proofs.Links.{serves_whole}
 use Rattle.ledger_program.proofs.Locals.{spans_log}
 use Rattle.ledger_program.specs.Run.{SpansLog}
-use Rattle.ledger_settling.specs.Blocks.{floor_of}
+use Rattle.ledger_raising.proofs.Rising.{Least, all_of_least}
+use Rattle.ledger_raising.specs.Raised.{FloorSound}
 use Rattle.sync_client.specs.Serving.{Serves}
 use Rattle.sync_net.specs.Core.{data_of}
 use Rattle.follow_laws.specs.Raised.{update_of, raised, raised_log, EndsLog}
-use Rattle.follow_laws.specs.Replayed.{IsFloorSound, IsAbove, IsLastOf}
+use Rattle.follow_laws.specs.Replayed.{IsAbove}
 
 sevens : (n i : ℕ) → get_or (replicate n 7) i 0 < 256
 sevens zero i = lit< tt
@@ -40,25 +39,17 @@ all_sound =
     let a : List AnyOp = update_of 10 1 ∷ b in
     All-cons IsSoundAny (CommitFloor None 0) a (commit_sound 0 (lit≤ tt)) (All-cons IsSoundAny (update_of 10 1) b (update_sound 10 1) (All-cons IsSoundAny (update_of 20 2) c (update_sound 20 2) (All-cons IsSoundAny (CommitFloor None 2) [] (commit_sound 2 (lit≤ tt)) (All-nil IsSoundAny))))
 
-floor_is : floor_of raised ≡ 2
+floor_is : log_floor any_floor raised_log ≡ 2
 unfolding raised update_of
 floor_is = refl
 
--- a later write of the key
-later : (key value : List ℕ) → update_of 10 1 ≡ Update key value → written_at key (any_write (update_of 20 2)) ≡ None → 2 ≤ 1
-unfolding update_of
-later key value is none =
-    let same : replicate 32 7 ≡ key = cc is in
-    let at_sevens : written_at (replicate 32 7) (any_write (update_of 20 2)) ≡ None = subst (λ (k : List ℕ). written_at k (any_write (update_of 20 2)) ≡ None) (sym same) none in
-    absurd (cc at_sevens)
+-- the second write of the account counts alone
+least : Least 2 (living any_write 0 raised)
+unfolding raised update_of
+least = (lit≤ tt, tt)
 
-sound : IsFloorSound 0 raised
-unfolding raised
-sound zero key value is last = absurd (cc is)
-sound (suc zero) key value is last =
-    let n : 2 ≤ 1 = later key value (cc is) (last 2 (update_of 20 2) (lit< tt) refl) in
-    absurd (omega (arith, n))
-sound (suc (suc n)) key value is last = let f = floor_is in omega (arith, f)
+sound : FloorSound any_floor any_write raised_log
+sound = all_of_least (log_floor any_floor raised_log) (living any_write 0 raised) (subst (λ (n : ℕ). Least n (living any_write 0 raised)) (sym floor_is) least)
 
 module _ (target : Target) (is : EndsLog 2 target raised_log) where
   pub above_raised : IsAbove target.start target.end raised_log

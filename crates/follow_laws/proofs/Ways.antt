@@ -1,5 +1,5 @@
 -- How a run ended, as something that the stream decides.
-use Rattle.std.proofs.Common.{◌≡◌, ◌⊎◌, ℕ, ◌+◌, ◌^◌, ◌≤◌, Bool, List, [], ◌++◌, length, map, Option, Some, None, Result, Ok, Err, refl, sym, ap, subst, ◌∙◌, inl, inr}
+use Rattle.std.proofs.Common.{◌≡◌, ◌⊎◌, ℕ, ◌+◌, ◌^◌, ◌≤◌, List, [], ◌++◌, length, map, Option, Some, None, Result, Ok, Err, refl, sym, ap, subst, ◌∙◌, inl, inr}
 use Rattle.std.specs.Prelude.{unwrap_or}
 use Rattle.std.specs.List.{AllByRecursion}
 use Rattle.std.specs.Cmp.{IsEquivalence}
@@ -13,7 +13,7 @@ use Rattle.ledger_merkle.specs.Tree.{part_root}
 use Rattle.ledger_merkle.specs.declared.proof.Part.{Part as Fetched}
 use Rattle.sha2.specs.Sha256.{sha256}
 use Rattle.ledger_program.specs.Faults.{fault_of}
-use Rattle.ledger_program.specs.Follow.{IsFetched, IsStopped, Follows, HasNoReport, FollowFails}
+use Rattle.ledger_program.specs.Follow.{IsFetched, Follows, HasNoReport, FollowFails}
 use Rattle.ledger_program.specs.declared.fault.Fault.{Fault}
 use Rattle.ledger_program.specs.declared.fault.Fault.TheVariants as faults
 use Rattle.ledger_settling.proofs.CauseLemmas.{IsWritten}
@@ -25,15 +25,14 @@ use Rattle.ledger_settling.specs.declared.fault.ReportFault.{ReportFault}
 use Rattle.ledger_settling.specs.declared.fault.ReportFault.TheVariants as causes
 use Rattle.ledger_settling.specs.declared.report.Report.{Report}
 use Rattle.ledger_transfers.specs.Rules.{SameOutcome}
-use Rattle.sync_client.specs.Ending.{Origin, Over, Stopped, Finished}
+use Rattle.sync_client.specs.Ending.{Origin, Over}
 use Rattle.sync_client.specs.Parts.{Assembles}
 use Rattle.sync_client.specs.Runs.{Outcome, Complete, Offends, Closes, Waits, Exhausts, Session, SessionLaws}
 use Rattle.sync_client.specs.Session.{State, Rules, InvalidResponse, UnexpectedResponse, Server, InvalidProof, TooManyStrays, StaleUpdate}
-use Rattle.sync_client.specs.declared.fault.SyncFault.{SyncFault}
 use Rattle.sync_client.specs.declared.fault.SyncFault.TheVariants as sync
 use Rattle.sync_net.specs.Wire.{Wire}
 use Rattle.follow_laws.specs.Alike.{Tells, SayOne, IsFree, AreOne, IsAlike, unreasoned}
-use Rattle.follow_laws.proofs.Streams.{Front, front_of, Leg, one_end}
+use Rattle.follow_laws.proofs.Streams.{front_of, Leg, one_end}
 use Rattle.follow_laws.proofs.Parts.{IsPart, IsWrong, IsSame, one_part, one_root, never_both}
 use Rattle.follow_laws.proofs.Blocks.{one_run, one_cause, no_cause}
 
@@ -128,8 +127,10 @@ module _ {T A E : Type 0} (m : Meaning T A E) (rules : Rules AnyOp) (start : Sta
         let p : IsSame rules t a.target b.target x.part y.part = one_part rules t a.target b.target x.part y.part x.is y.is in
         let pinned : a.pinned ≡ b.pinned = x.pinned ∙ (p.pinned ∙ sym y.pinned) in
         let kept : a.kept ≡ b.kept = x.kept ∙ (p.ops ∙ sym y.kept) in
-        let runs = one_run m blocks a.verdicts b.verdicts a.kept a.log.ops b.log.ops x.of.grows (subst (λ (ops : List AnyOp). RunsTo m ops blocks b.verdicts b.log.ops) (sym kept) y.of.grows) in
         let from : a.target.start ≡ b.target.start = ap (λ (z : Target). z.start) p.target in
+        let grows : RunsTo m a.target.start a.kept blocks b.verdicts b.log.ops =
+        subst (λ (n : ℕ). RunsTo m n a.kept blocks b.verdicts b.log.ops) (sym from) (subst (λ (ops : List AnyOp). RunsTo m b.target.start ops blocks b.verdicts b.log.ops) (sym kept) y.of.grows) in
+        let runs = one_run m a.target.start blocks a.verdicts b.verdicts a.kept a.log.ops b.log.ops x.of.grows grows in
         let log : a.log ≡ b.log = log_is a.log b.log (x.of.front ∙ (from ∙ sym y.of.front)) (x.of.nodes ∙ (pinned ∙ sym y.of.nodes)) runs.1 in
         record {
           target = p.target;

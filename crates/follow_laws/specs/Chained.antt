@@ -1,6 +1,8 @@
 -- What the next run has of a report.
-use Rattle.std.specs.Prelude.{◌≡◌, ℕ, ◌≤◌, Bool, List, Option, Some}
+use Rattle.std.specs.Prelude.{◌≡◌, ℕ, ◌≤◌, Bool, List, Some}
+use Rattle.ledger_log.specs.Any.{any_floor}
 use Rattle.ledger_log.specs.Spelling.{Is32Bytes}
+use Rattle.ledger_log.specs.View.{log_floor}
 use Rattle.ledger_log.specs.declared.target.Target.{Target}
 use Rattle.ledger_managed.specs.Values.{Values}
 use Rattle.ledger_settling.specs.Reports.{held}
@@ -13,6 +15,16 @@ pub record LogTarget {A : Type 0} (report : Report A) (target : Target) : Type 0
   pub root : target.root ≡ report.root
   pub start : target.start ≡ report.start
   pub end : target.end ≡ report.size
+
+-- the target of the end of a report's log: its root, from its floor to its size
+pub record FloorTarget {A : Type 0} (report : Report A) (target : Target) : Type 0 where
+  pub root : target.root ≡ report.root
+  pub start : target.start ≡ log_floor any_floor report.log
+  pub end : target.end ≡ report.size
+
+-- the next report has the accounts of one
+abbrev pub HasAccounts : {A : Type 0} → (A → A → Bool) → Report A → Report A → Type 0
+HasAccounts same report next = (key : List ℕ) → SameOutcome same (held next.accounts key) (held report.accounts key)
 
 -- the next report goes on where one ended: it has its root, its size, its operations and its accounts
 pub record Continues {A : Type 0} (same : A → A → Bool) (report next : Report A) : Type 0 where

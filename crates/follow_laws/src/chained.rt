@@ -44,7 +44,7 @@ fn see_operation(log: &Log<AnyFamily, Sha256Hasher>, at: u64)
 }
 
 /// The log's operations are those that the type has.
-fn see_operations(log: &Log<AnyFamily, Sha256Hasher>)
+pub(crate) fn see_operations(log: &Log<AnyFamily, Sha256Hasher>)
     ensures { All IsSoundAny log.now.ops }
 {
     let mut at = log.front().get();
@@ -73,7 +73,7 @@ fn see_digest(digests: &[Digest], at: usize)
 }
 
 /// Each digest has 32 bytes.
-fn see_digests(digests: &[Digest])
+pub(crate) fn see_digests(digests: &[Digest])
     ensures { All (λ digest. length digest ≡ 32) digests.now }
 {
     let mut at = 0;
@@ -99,7 +99,7 @@ fn target_of<A>(report: &Report<A>) -> Target
 }
 
 /// A link that serves the log, and whose calls don't fail.
-fn link_to(alloc: Global, log: Log<AnyFamily, Sha256Hasher>) -> MemoryLink<AnyFamily>
+pub(crate) fn link_to(alloc: Global, log: Log<AnyFamily, Sha256Hasher>) -> MemoryLink<AnyFamily>
     ensures steady { result.calls.failing ≡ [] }
     ensures count { result.calls.faults ≡ 0 }
     ensures serves { OwesNothing (data_of any_spelling any_floor log)

@@ -6,6 +6,8 @@
 //!
 //!   link ──follow──▶ report ──its log, behind a link──follow──▶ report with its root         (chained)
 //!
+//!   link ──follow──▶ report ──its log from its floor on──follow──▶ report with its accounts  (floored)
+//!
 //!   served log ──follow──▶ accounts of its end part ═══ accounts of all of it                (replayed)
 //! ```
 //! Each is a function over public calls whose own contract says the law.
@@ -13,10 +15,12 @@
 
 mod alike;
 mod chained;
+mod floored;
 mod replayed;
 #[cfg(test)]
 mod tests;
 
 pub use alike::{Runs, follow_twice};
 pub use chained::follow_report;
+pub use floored::follow_floor;
 pub use replayed::follow_part;

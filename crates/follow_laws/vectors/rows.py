@@ -16,7 +16,8 @@ def value(balance, nonce):
 
 
 OPENED = [commit(0), update(key("alice"), value(10, 0)), commit(0)]
-PAID = OPENED + [update(key("alice"), value(4, 1)), update(key("bob"), value(6, 0)), commit(0)]
+# Neither key's old update counts behind the changes, so nothing is copied, and the floor is alice's new place.
+PAID = OPENED + [update(key("alice"), value(4, 1)), update(key("bob"), value(6, 0)), commit(3)]
 
 # Two operations of the opened log, and four of the paid one, which is named after the first answer.
 STREAM = b"".join(frame(body) for body in (

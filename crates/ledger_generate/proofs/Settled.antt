@@ -47,7 +47,7 @@ module _ (sizes : SizesView) (w : IsWithin sizes) where
   settling : Settling (generated sizes)
   settling = record {
     verdicts = NoVerdicts ∷ [];
-    all = grown payments (served (opens sizes)) (all_payments sizes);
+    all = grown payments 0 (served (opens sizes)) (all_payments sizes);
     runs = (body_settles, refl);
   }
 
@@ -67,7 +67,7 @@ module _ (sizes : SizesView) (w : IsWithin sizes) where
   has_room : (0 + length (served (opens sizes))) + room_for (generated sizes).blocks ≤ 2 ^ 62
   has_room = room (length (served (opens sizes))) (length (all_payments sizes)) sizes.accounts sizes.transfers accounts_long payments_long w.most w.few
     where
-      room : (n p a t : ℕ) → n ≡ a + 2 → p ≡ t → a ≤ 20000 → t ≤ 100000 → (0 + n) + ((1 + 2 * p) + 0) ≤ 2 ^ 62
+      room : (n p a t : ℕ) → n ≡ a + 2 → p ≡ t → a ≤ 20000 → t ≤ 100000 → (0 + n) + ((1 + 4 * p) + 0) ≤ 2 ^ 62
       room n p a t e f g h = omega (arith, e, f, g, h)
 
   -- so a generated job has no fault but want of memory

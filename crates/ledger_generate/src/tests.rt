@@ -36,19 +36,19 @@ fn jobs_end_as_worked(rt: HostRuntime) -> Result<(), Fail> {
     let cases = [
         (
             "generate 7 4 6",
-            "generated 4 6\nsize 11\nroot 771b97d8463e1539145c66a4634458a023d7293767f61650e5597dcd2024333f\n",
+            "generated 4 6\nsize 11\nroot e994d3527b8bdfbcfb1bce588ea301367768e1caf60ce6ddb181d80f175ef915\n",
         ),
         (
             "generate 1 2 1",
-            "generated 2 1\nsize 7\nroot df19bf6593f0b8196c54ac1c6b4c1e2bc09f58e072d51c7c82ce3dfc079a1138\n",
+            "generated 2 1\nsize 7\nroot daa3a78d8062f6c473ff45a8d8c8ca57b6009367239bd4cbae5d8a003c17a66c\n",
         ),
         (
             "generate 1000000 2 1 --workers 1",
-            "generated 2 1\nsize 7\nroot 31668e536245927cb0afac1d4d6727e779a29019d352e0fdb233c4ee6d5e202e\n",
+            "generated 2 1\nsize 7\nroot d4da3cdc4c51d41f206b36f4e6379c528212352b74984cc90d7746bcd9023ff3\n",
         ),
         (
             "generate 18446744073709551615 3 10 --workers 64",
-            "generated 3 10\nsize 9\nroot 36b79ffc80080df8d21dec8e4de27cffaf75464fec925997d60bc5e241cd238d\n",
+            "generated 3 10\nsize 9\nroot 9177d7be642805c791d49ef56b57fbb92fc99c67a57c0b8e95a59e41a23bca32\n",
         ),
     ];
     for (line, text) in cases {
@@ -60,7 +60,7 @@ fn jobs_end_as_worked(rt: HostRuntime) -> Result<(), Fail> {
 #[test]
 fn a_large_job_ends_as_worked(rt: HostRuntime) -> Result<(), Fail> {
     let text =
-        "generated 20000 100000\nsize 40003\nroot 719798ce6482b385e2901e82e8e3c01dcc656706d4d8c80d6d8e23c959a82cc8\n";
+        "generated 20000 100000\nsize 40003\nroot 381e7390553da1fa735831b7fef2a06bc81573bf9f5669b54f1073e789aecfb5\n";
     assert!(rt; ends(&rt, "generate 1 20000 100000 --workers 8", 0, text)?);
     Ok(())
 }

@@ -36,7 +36,7 @@ fn ends<R: RandomSource + Threads + Sync + Net + AllocGlobal>(
 }
 
 const TARGET: &str =
-    "target 480116e956be48dcc4b4ef37bdd8deff5eafe415132e8d86bff3e8d7494911aa 0 3\n";
+    "target 4b8502c97e116f46fdb2d07ca4b5c9884bd337459c0711c9b7d3a97c0ed860e7 0 3\n";
 
 #[test]
 fn refusals_have_their_statuses(rt: HostRuntime) -> Result<(), Fail> {

@@ -55,7 +55,7 @@ attempted form left before now d dn over Follow job Usage e j f = absurd f
 attempted form left before now d dn over Follow job (BadJob line) e j f = absurd f
 attempted form left before now d dn over Follow job JobRead e j f = absurd f
 attempted form left before now d dn over Follow job JobTooLarge e j f = absurd f
-attempted form left before now d dn over Follow job Dial e j f = record { form_is = e; rose = f.0; silent = f.1 }
+attempted form left before now d dn over Follow job Dial e j f = record { form_is = e; job = job; is_job = j; rose = f.0; silent = f.1 }
 attempted form left before now d dn over Follow job (RunFollow fault) e j f = record { kind = Follow; form_is = e; job = job; is_job = j; fails = f }
 attempted form left before now d dn over Follow job Output e j f = absurd f
 attempted form left before now d dn over Follow job OutOfMemory e j f = ap is_some e

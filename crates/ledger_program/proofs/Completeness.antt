@@ -22,7 +22,7 @@ use Rattle.ledger_program.specs.declared.outcome.RunFault.TheVariants.{Usage, Ba
 use Rattle.ledger_settling.specs.Faults.{RunFails}
 use Rattle.ledger_settling.specs.declared.fault.ReportFault.{ReportFault}
 use Rattle.ledger_settling.specs.declared.fault.ReportFault.TheVariants.{BadLog as NoLog, BadValue as NoValue, Rejected as BlockRejected, Full as LogFull, OutOfMemory as NoMemory}
-use Rattle.ledger_settling.specs.Blocks.{IsFull}
+use Rattle.ledger_settling.specs.Blocks.{IsFull, IsRejected}
 use Rattle.ledger_settling.proofs.CauseLemmas.{IsWritten, never_rejected, never_full, room_for}
 use Rattle.ledger_program.proofs.Rooms.{job_short}
 
@@ -47,8 +47,9 @@ module _ (job : Job) (room : (0 + length (served job.opens)) + room_for job.bloc
   no_fault target (NoLog location) is f b = b
   no_fault target (NoValue location) is f b = b
   no_fault target (BlockRejected block rejection) is f b =
-      never_rejected payments sequenced_value_laws job.blocks settling.verdicts (served job.opens) settling.all (served_written job.opens) settling.runs
-      block f.2.before.verdicts f.2.before.all f.2.batch rejection f.2.before.runs f.2.at f.2.offence
+      let r = subst (λ n. IsRejected payments n (served job.opens) job.blocks block rejection) is.start f.2 in
+      never_rejected payments sequenced_value_laws 0 job.blocks settling.verdicts (served job.opens) settling.all (served_written job.opens) settling.runs
+      block r.before.verdicts r.before.all r.batch rejection r.before.runs r.at r.offence
   no_fault target (LogFull block) is f b =
       never_full payments two_changes 0 (served job.opens) job.blocks block room (subst (λ n. IsFull payments n (served job.opens) job.blocks block) is.start f.2)
   no_fault target NoMemory is f b = b
@@ -61,7 +62,7 @@ module _ (text : List ℕ) (job : Job) (is_job : IsJob Local text job) (settling
   has_room : (0 + length (served job.opens)) + room_for job.blocks ≤ 2 ^ 62
   has_room = room (length (served job.opens)) (room_for job.blocks) (length text) (job_short Local text job is_job.is) is_job.within
     where
-      room : (n r t : ℕ) → n + r ≤ 3 * t + 5 → t ≤ max_job → (0 + n) + r ≤ 2 ^ 62
+      room : (n r t : ℕ) → n + r ≤ 5 * t + 7 → t ≤ max_job → (0 + n) + r ≤ 2 ^ 62
       room n r t p q = omega (arith, p, q)
 
   settling_unfollowed : (fault : Fault) → IsOfBlock fault → FailsJob job fault → ⊥

@@ -48,7 +48,7 @@ lines_short text = by (length text == 0)
     by false = omega (arith, split_short (λ c. c == 10) (without_end text), end_short text)
 
 -- the operations of a list of lines, with its first payments and rounds
-blocks_short : (lines : List Line) → room_for (blocks_of lines) + (2 * length (payments_of lines) + 2 * length (joined (rounds_of lines))) ≤ 2 * length lines
+blocks_short : (lines : List Line) → room_for (blocks_of lines) + (4 * length (payments_of lines) + 4 * length (joined (rounds_of lines))) ≤ 4 * length lines
 blocks_short [] = omega arith
 blocks_short (Skipped ∷ lines) = omega (arith, blocks_short lines)
 blocks_short (Open account ∷ lines) = omega (arith, blocks_short lines)
@@ -64,7 +64,7 @@ served_length : (accounts : List Opened) → length (served accounts) ≡ length
 unfolding served
 served_length accounts = omega (arith, length-append (map update_of accounts) (CommitFloor None 0 ∷ []), length-map accounts update_of)
 
-from_short : (lines : List Line) → length (served (job_from lines).opens) + room_for (job_from lines).blocks ≤ 3 * length lines + 2
+from_short : (lines : List Line) → length (served (job_from lines).opens) + room_for (job_from lines).blocks ≤ 5 * length lines + 2
 unfolding job_from
 from_short lines = omega (arith, served_length (filter_map open_in lines), map_short open_in lines, blocks_short lines)
 
@@ -72,7 +72,7 @@ same_job : (i j : Job) (r : Result Job ℕ) → r ≡ Ok i → r ≡ Ok j → i 
 same_job i j r e f = cc
 
 -- all operations of a job's log are few
-pub job_short : (kind : JobKind) (text : List ℕ) (job : Job) → job_of kind text ≡ Ok job → length (served job.opens) + room_for job.blocks ≤ 3 * length text + 5
+pub job_short : (kind : JobKind) (text : List ℕ) (job : Job) → job_of kind text ≡ Ok job → length (served job.opens) + room_for job.blocks ≤ 5 * length text + 7
 unfolding job_of
 job_short kind text job h = by (first_offence kind [] (read_lines text)) h
   where
@@ -82,6 +82,6 @@ job_short kind text job h = by (first_offence kind [] (read_lines text)) h
     few : length lines ≤ length text + 1
     few = omega (arith, map_short (λ line. line) (read_lines text), length-map (lines_of text) line_of, lines_short text)
 
-    by : (o : Option ℕ) → job_or_offence lines o ≡ Ok job → length (served job.opens) + room_for job.blocks ≤ 3 * length text + 5
-    by None e = subst (λ j. length (served j.opens) + room_for j.blocks ≤ 3 * length text + 5) (same_job (job_from lines) job (Ok (job_from lines)) refl e) (omega (arith, from_short lines, few))
+    by : (o : Option ℕ) → job_or_offence lines o ≡ Ok job → length (served job.opens) + room_for job.blocks ≤ 5 * length text + 7
+    by None e = subst (λ j. length (served j.opens) + room_for j.blocks ≤ 5 * length text + 7) (same_job (job_from lines) job (Ok (job_from lines)) refl e) (omega (arith, from_short lines, few))
     by (Some n) e = absurd cc

@@ -52,32 +52,32 @@ module _ {T A E : Type 0} (m : Meaning T A E) where
 
   -- ---- no block makes the log too long
 
-  grows : (ops : List AnyOp) (batch : List T) → length ops ≤ length (grown m ops batch)
-  grows ops batch = let e = length-append ops (appended m.same m.rules m.values ops (touches m.changes_of batch)) in omega arith
+  grows : (start : ℕ) (ops : List AnyOp) (batch : List T) → length ops ≤ length (grown m start ops batch)
+  grows start ops batch = let e = length-append ops (appended m.same m.rules m.values start ops (touches m.changes_of batch)) in omega arith
 
-  runs_on : (bs : List (Block T)) (vs : List BlockVerdicts) (ops all : List AnyOp) → RunsTo m ops bs vs all → length ops ≤ length all
-  runs_on [] [] ops all e = let n = ap length e in omega arith
-  runs_on [] (v ∷ vs) ops all e = absurd e
-  runs_on (b ∷ bs) [] ops all e = absurd e
-  runs_on (b ∷ bs) (v ∷ vs) ops all e = let n = grows ops (batch_of b v) in let k = runs_on bs vs (grown m ops (batch_of b v)) all e.1 in omega arith
+  runs_on : (start : ℕ) (bs : List (Block T)) (vs : List BlockVerdicts) (ops all : List AnyOp) → RunsTo m start ops bs vs all → length ops ≤ length all
+  runs_on start [] [] ops all e = let n = ap length e in omega arith
+  runs_on start [] (v ∷ vs) ops all e = absurd e
+  runs_on start (b ∷ bs) [] ops all e = absurd e
+  runs_on start (b ∷ bs) (v ∷ vs) ops all e = let n = grows start ops (batch_of b v) in let k = runs_on start bs vs (grown m start ops (batch_of b v)) all e.1 in omega arith
 
-  none_long : (bs : List (Block T)) (vs : List BlockVerdicts) (ops all : List AnyOp) → RunsTo m ops bs vs all
-      → (i : ℕ) (ws : List BlockVerdicts) (there : List AnyOp) (block : Block T) (v : BlockVerdicts) → RunsTo m ops (take i bs) ws there → slice_get bs i ≡ Some block → Settles m there block v → length (grown m there (batch_of block v)) ≤ length all
-  none_long [] vs ops all runs i ws there block v before at s = absurd (true≢false (sym (ap is_some at)))
-  none_long (b ∷ bs) [] ops all runs i ws there block v before at s = absurd runs
-  none_long (b ∷ bs) (u ∷ vs) ops all runs zero [] there block v before at s =
+  none_long : (start : ℕ) (bs : List (Block T)) (vs : List BlockVerdicts) (ops all : List AnyOp) → RunsTo m start ops bs vs all
+      → (i : ℕ) (ws : List BlockVerdicts) (there : List AnyOp) (block : Block T) (v : BlockVerdicts) → RunsTo m start ops (take i bs) ws there → slice_get bs i ≡ Some block → Settles m there block v → length (grown m start there (batch_of block v)) ≤ length all
+  none_long start [] vs ops all runs i ws there block v before at s = absurd (true≢false (sym (ap is_some at)))
+  none_long start (b ∷ bs) [] ops all runs i ws there block v before at s = absurd runs
+  none_long start (b ∷ bs) (u ∷ vs) ops all runs zero [] there block v before at s =
       let is : b ≡ block = some_is b block at in
       let here : Settles m ops b v = subst (λ c. Settles m ops c v) (sym is) (subst (λ us. Settles m us block v) before s) in
       let same : batch_of b v ≡ batch_of b u = one_batch m ops b v u here runs.0 in
-      let k = runs_on bs vs (grown m ops (batch_of b u)) all runs.1 in
-      let e : length (grown m there (batch_of block v)) ≡ length (grown m ops (batch_of b u)) =
-      ap (λ us. length (grown m us (batch_of block v))) before ∙ (ap (λ c. length (grown m ops (batch_of c v))) (sym is) ∙ ap (λ us. length (grown m ops us)) same) in
+      let k = runs_on start bs vs (grown m start ops (batch_of b u)) all runs.1 in
+      let e : length (grown m start there (batch_of block v)) ≡ length (grown m start ops (batch_of b u)) =
+      ap (λ us. length (grown m start us (batch_of block v))) before ∙ (ap (λ c. length (grown m start ops (batch_of c v))) (sym is) ∙ ap (λ us. length (grown m start ops us)) same) in
       omega arith
-  none_long (b ∷ bs) (u ∷ vs) ops all runs zero (w ∷ ws) there block v before at s = absurd before
-  none_long (b ∷ bs) (u ∷ vs) ops all runs (suc i) [] there block v before at s = absurd before
-  none_long (b ∷ bs) (u ∷ vs) ops all runs (suc i) (w ∷ ws) there block v before at s =
+  none_long start (b ∷ bs) (u ∷ vs) ops all runs zero (w ∷ ws) there block v before at s = absurd before
+  none_long start (b ∷ bs) (u ∷ vs) ops all runs (suc i) [] there block v before at s = absurd before
+  none_long start (b ∷ bs) (u ∷ vs) ops all runs (suc i) (w ∷ ws) there block v before at s =
       let same = one_batch m ops b w u before.0 runs.0 in
-      none_long bs vs (grown m ops (batch_of b u)) all runs.1 i ws there block v (subst (λ us. RunsTo m (grown m ops us) (take i bs) ws there) same before.1) at s
+      none_long start bs vs (grown m start ops (batch_of b u)) all runs.1 i ws there block v (subst (λ us. RunsTo m start (grown m start ops us) (take i bs) ws there) same before.1) at s
 
   -- ---- each value is an account
 
@@ -106,9 +106,9 @@ module _ {T A E : Type 0} (m : Meaning T A E) where
       absurd (unread bad.op (All-at (IsReadable m.values) (range_in log target) bad.place bad.op bad.at valid.readable) bad.unreadable)
   only_memory laws log target blocks o now wire risen (faults.Rejected block rejection) h valid still served fails =
       let f = served.2 in
-      absurd (never_rejected m laws blocks valid.verdicts (range_in log target) valid.all h valid.runs block f.before.verdicts f.before.all f.batch rejection f.before.runs f.at f.offence)
+      absurd (never_rejected m laws target.start blocks valid.verdicts (range_in log target) valid.all h valid.runs block f.before.verdicts f.before.all f.batch rejection f.before.runs f.at f.offence)
   only_memory laws log target blocks o now wire risen (faults.Full block) h valid still served fails =
       let f = served.2 in
-      let k = none_long blocks valid.verdicts (range_in log target) valid.all valid.runs block f.before.verdicts f.before.all f.block f.verdict f.before.runs f.at f.settles in
+      let k = none_long target.start blocks valid.verdicts (range_in log target) valid.all valid.runs block f.before.verdicts f.before.all f.block f.verdict f.before.runs f.at f.settles in
       absurd (let l = f.long in let r = valid.room in omega arith)
   only_memory laws log target blocks o now wire risen faults.OutOfMemory h valid still served fails = refl

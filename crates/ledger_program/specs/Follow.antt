@@ -135,7 +135,7 @@ pub record IsValid {T A E : Type 0} (m : Meaning T A E) (log : LogView AnyOp) (t
   pub readable : All (IsReadable m.values) (range_in log target)
   pub verdicts : List BlockVerdicts
   pub all : List AnyOp
-  pub runs : RunsTo m (range_in log target) blocks verdicts all
+  pub runs : RunsTo m target.start (range_in log target) blocks verdicts all
   pub room : target.start + length all ≤ 2 ^ 62
 
 -- each answer but Network and want of memory leaves the link's count

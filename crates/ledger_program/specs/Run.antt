@@ -107,7 +107,7 @@ pub record Misread (form : Option JobKind) (left : Option (List ℕ)) (line : �
 pub record Settling (job : Job) : Type 0 where
   pub verdicts : List BlockVerdicts
   pub all : List AnyOp
-  pub runs : RunsTo payments (served job.opens) job.blocks verdicts all
+  pub runs : RunsTo payments 0 (served job.opens) job.blocks verdicts all
 
 -- the job has a report: its blocks settle on the log that it serves, or the link serves what it names, and its input is valid
 abbrev pub IsReady : JobKind → Option Service → Job → Type 0
@@ -161,9 +161,11 @@ ReadFails kind left before now JobTooLarge = HeldMore max_job left
 ReadFails kind left before now OutOfMemory = ⊤
 ReadFails kind left before now fault = ⊥
 
--- a dial failed, as the words ask for one, and nothing was sent or read
-pub record Undialed (form : Option JobKind) (before now : ℕ) (over : Over) : Type 0 where
+-- there is a job that asks for a dial, which failed, and nothing was sent or read; where the source told its bytes, their text is that job
+pub record Undialed (form : Option JobKind) (left : Option (List ℕ)) (before now : ℕ) (over : Over) : Type 0 where
   pub form_is : form ≡ Some Follow
+  pub job : Job
+  pub is_job : IfSome left (λ text. IsJob Follow text job)
   pub rose : Rose before now
   pub silent : over.wire_now ≡ over.wire
 
@@ -173,7 +175,7 @@ Attempted form left before now dialed_before dialed_now over Usage = form ≡ No
 Attempted form left before now dialed_before dialed_now over (BadJob line) = Misread form left line
 Attempted form left before now dialed_before dialed_now over JobRead = (is_some form ≡ true) × Rose before now
 Attempted form left before now dialed_before dialed_now over JobTooLarge = (is_some form ≡ true) × HeldMore max_job left
-Attempted form left before now dialed_before dialed_now over Dial = Undialed form dialed_before dialed_now over
+Attempted form left before now dialed_before dialed_now over Dial = Undialed form left dialed_before dialed_now over
 Attempted form left before now dialed_before dialed_now over (RunFollow fault) = Unfollowed form left over fault
 Attempted form left before now dialed_before dialed_now over Output = ⊥
 Attempted form left before now dialed_before dialed_now over OutOfMemory = is_some form ≡ true

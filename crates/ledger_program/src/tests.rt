@@ -104,7 +104,7 @@ fn a_body_settles(rt: HostRuntime) -> Result<(), Fail> {
     assert_eq!(rt; status, 0);
     assert_eq!(rt;
         printed.as_str(),
-        "synced 0 3\nblock 0 body\naccount alice 4 1\naccount bob 6 0\nsize 6\nroot 480116e956be48dcc4b4ef37bdd8deff5eafe415132e8d86bff3e8d7494911aa\n"
+        "synced 0 3\nblock 0 body\naccount alice 4 1\naccount bob 6 0\nsize 6\nroot 1a1e2649c723f287b24a0babda0bf74d3d758d02f61405f7d9cd3875542e23de\n"
     );
     Ok(())
 }

@@ -25,7 +25,8 @@ use Rattle.ledger_transfers.specs.declared.slot.Slot.TheVariants.{Keep, Put, Del
 use Rattle.ledger_transfers.specs.declared.totals.Totals.{Totals}
 use Rattle.ledger_transfers.proofs.TotalLemmas.{total_by-none}
 use Rattle.ledger_transfers.proofs.BatchLemmas.{no_offence, settles_key}
-use Rattle.ledger_settling.specs.Blocks.{Meaning, firsts, joined, written, slot_at, changed, appended, opening, IsSettled, IsOffence, grown, batch_of, Settles, RunsTo, IsFull, floor_of}
+use Rattle.ledger_settling.specs.Blocks.{Meaning, firsts, joined, written, slot_at, changed, log_from, opening, IsSettled, IsOffence, grown, batch_of, Settles, RunsTo, IsFull}
+use Rattle.ledger_settling.proofs.RaisedLemmas.{raised_all, appended_short}
 
 module _ {T : Type 0} (P : List T → Type 0) where
   -- greedy has one list of verdicts
@@ -117,10 +118,6 @@ module _ {T A E : Type 0} (m : Meaning T A E) where
       written_or_not (bytes_eq k key) o None (filter_map (λ op. written_at key (any_write op)) ops) v e (λ p. value_written key p ops v h.1) (after_delete o v)
   value_written key o (CommitFloor metadata floor ∷ ops) v h e = value_written key o ops v h.1 e
 
-  append_written : (xs ys : List AnyOp) → AllByRecursion IsWritten xs → AllByRecursion IsWritten ys → AllByRecursion IsWritten (xs ++ ys)
-  append_written [] ys h k = k
-  append_written (x ∷ xs) ys h k = (h.0, append_written xs ys h.1 k)
-
   module _ {IsSound : A → Type 0} (laws : ValueLaws m.same IsSound m.rules m.values) where
     slot_written : (key : List ℕ) (s : Slot A) (rest : List AnyOp) → AllByRecursion IsWritten rest → AllByRecursion IsWritten (cons_option (written m.values key s) rest)
     slot_written key Keep rest r = r
@@ -131,10 +128,10 @@ module _ {T A E : Type 0} (m : Meaning T A E) where
     slots_written ops ts [] = tt
     slots_written ops ts (k ∷ ks) = slot_written k (slot_at m.same m.rules m.values ops ts k) _ (slots_written ops ts ks)
 
-    grown_written : (ops : List AnyOp) (batch : List T) → AllByRecursion IsWritten ops → AllByRecursion IsWritten (grown m ops batch)
-    grown_written ops batch h =
-        append_written ops (appended m.same m.rules m.values ops (touches m.changes_of batch)) h
-        (append_written (changed m.same m.rules m.values ops (touches m.changes_of batch)) (CommitFloor None (floor_of ops) ∷ []) (slots_written ops (touches m.changes_of batch) (firsts bytes_eq (map (λ t. t.0) (touches m.changes_of batch)))) (tt, tt))
+    grown_written : (start : ℕ) (ops : List AnyOp) (batch : List T) → AllByRecursion IsWritten ops → AllByRecursion IsWritten (grown m start ops batch)
+    grown_written start ops batch h =
+        raised_all IsWritten (log_from start ops) (changed m.same m.rules m.values ops (touches m.changes_of batch)) h
+        (slots_written ops (touches m.changes_of batch) (firsts bytes_eq (map (λ t. t.0) (touches m.changes_of batch)))) (λ floor. tt)
 
     amounts_of : (ops : List AnyOp) → AllByRecursion IsWritten ops → (k : List ℕ) → m.rules.balance_of (opening m ops k) ≤ max_amount
     amounts_of ops h k = by (value_at any_write k ops) refl
@@ -155,19 +152,19 @@ module _ {T A E : Type 0} (m : Meaning T A E) where
     some_is x y h = ap (λ o. unwrap_or o x) h
 
     -- where all blocks settle, none is rejected
-    pub never_rejected : (bs : List (Block T)) (vs : List BlockVerdicts) (ops all : List AnyOp) → AllByRecursion IsWritten ops → RunsTo m ops bs vs all
-        → (i : ℕ) (ws : List BlockVerdicts) (there : List AnyOp) (batch : List T) (r : Rejection (List ℕ)) → RunsTo m ops (take i bs) ws there → slice_get bs i ≡ Some (Body batch) → IsOffence m there batch r → ⊥
-    never_rejected [] vs ops all h runs i ws there batch r before at o = absurd (true≢false (sym (ap is_some at)))
-    never_rejected (b ∷ bs) [] ops all h runs i ws there batch r before at o = absurd runs
-    never_rejected (b ∷ bs) (v ∷ vs) ops all h runs zero [] there batch r before at o =
+    pub never_rejected : (start : ℕ) (bs : List (Block T)) (vs : List BlockVerdicts) (ops all : List AnyOp) → AllByRecursion IsWritten ops → RunsTo m start ops bs vs all
+        → (i : ℕ) (ws : List BlockVerdicts) (there : List AnyOp) (batch : List T) (r : Rejection (List ℕ)) → RunsTo m start ops (take i bs) ws there → slice_get bs i ≡ Some (Body batch) → IsOffence m there batch r → ⊥
+    never_rejected start [] vs ops all h runs i ws there batch r before at o = absurd (true≢false (sym (ap is_some at)))
+    never_rejected start (b ∷ bs) [] ops all h runs i ws there batch r before at o = absurd runs
+    never_rejected start (b ∷ bs) (v ∷ vs) ops all h runs zero [] there batch r before at o =
         let is : b ≡ Body batch = some_is b (Body batch) at in
         settled_or_offends ops batch r (amounts_of ops h) (body_settled ops batch v (subst (λ c. Settles m ops c v) is runs.0)) (subst (λ us. IsOffence m us batch r) before o)
-    never_rejected (b ∷ bs) (v ∷ vs) ops all h runs zero (w ∷ ws) there batch r before at o = absurd before
-    never_rejected (b ∷ bs) (v ∷ vs) ops all h runs (suc i) [] there batch r before at o = absurd before
-    never_rejected (b ∷ bs) (v ∷ vs) ops all h runs (suc i) (w ∷ ws) there batch r before at o =
+    never_rejected start (b ∷ bs) (v ∷ vs) ops all h runs zero (w ∷ ws) there batch r before at o = absurd before
+    never_rejected start (b ∷ bs) (v ∷ vs) ops all h runs (suc i) [] there batch r before at o = absurd before
+    never_rejected start (b ∷ bs) (v ∷ vs) ops all h runs (suc i) (w ∷ ws) there batch r before at o =
         let same = one_batch ops b w v before.0 runs.0 in
-        never_rejected bs vs (grown m ops (batch_of b v)) all (grown_written ops (batch_of b v) h) runs.1 i ws there batch r
-        (subst (λ us. RunsTo m (grown m ops us) (take i bs) ws there) same before.1) at o
+        never_rejected start bs vs (grown m start ops (batch_of b v)) all (grown_written start ops (batch_of b v) h) runs.1 i ws there batch r
+        (subst (λ us. RunsTo m start (grown m start ops us) (take i bs) ws there) same before.1) at o
 
 filter_short : {X : Type 0} (p : X → Bool) (xs : List X) → length (filter p xs) ≤ length xs
 filter_short p [] = omega arith
@@ -203,21 +200,21 @@ abbrev pub transfers_in : {T : Type 0} → Block T → ℕ
 transfers_in (Body batch) = length batch
 transfers_in (Rounds rounds) = length (joined rounds)
 
--- the greatest number of operations that blocks append, where each transfer has two changes
+-- the greatest number of operations that blocks append, where each transfer has two changes, and each of these a copy
 abbrev pub room_for : {T : Type 0} → List (Block T) → ℕ
 room_for [] = 0
-room_for (b ∷ bs) = (1 + 2 * transfers_in b) + room_for bs
+room_for (b ∷ bs) = (1 + 4 * transfers_in b) + room_for bs
 
 batch_short : {T : Type 0} (b : Block T) (v : BlockVerdicts) → length (batch_of b v) ≤ transfers_in b
 batch_short (Body batch) v = omega arith
 batch_short (Rounds rounds) NoVerdicts = omega arith
 batch_short (Rounds rounds) (Verdicts vs) = taken_short (joined rounds) (joined vs)
 
-room_at : {T : Type 0} (bs : List (Block T)) (i : ℕ) (b : Block T) → slice_get bs i ≡ Some b → room_for (take i bs) + (1 + 2 * transfers_in b) ≤ room_for bs
+room_at : {T : Type 0} (bs : List (Block T)) (i : ℕ) (b : Block T) → slice_get bs i ≡ Some b → room_for (take i bs) + (1 + 4 * transfers_in b) ≤ room_for bs
 room_at [] i b h = absurd (true≢false (sym (ap is_some h)))
 room_at (c ∷ bs) zero b h =
     let is : c ≡ b = ap (λ o. unwrap_or o c) h in
-    subst (λ d. 0 + (1 + 2 * transfers_in d) ≤ (1 + 2 * transfers_in c) + room_for bs) is (omega arith)
+    subst (λ d. 0 + (1 + 4 * transfers_in d) ≤ (1 + 4 * transfers_in c) + room_for bs) is (omega arith)
 room_at (c ∷ bs) (suc i) b h = omega (arith, room_at bs i b h)
 
 module _ {T A E : Type 0} (m : Meaning T A E) (two : (t : T) → length (m.changes_of t) ≤ 2) where
@@ -225,8 +222,8 @@ module _ {T A E : Type 0} (m : Meaning T A E) (two : (t : T) → length (m.chang
   touches_short [] = omega arith
   touches_short (t ∷ batch) = omega (arith, two t, touches_short batch, length-append (m.changes_of t) (flat_map m.changes_of batch))
 
-  grown_short : (ops : List AnyOp) (batch : List T) → length (grown m ops batch) ≤ length ops + (1 + 2 * length batch)
-  grown_short ops batch =
+  changed_short : (ops : List AnyOp) (batch : List T) → length (changed m.same m.rules m.values ops (touches m.changes_of batch)) ≤ 2 * length batch
+  changed_short ops batch =
       let ts = touches m.changes_of batch in
       let keys = map (λ (t : List ℕ × Change E). t.0) ts in
       let made = changed m.same m.rules m.values ops ts in
@@ -234,35 +231,40 @@ module _ {T A E : Type 0} (m : Meaning T A E) (two : (t : T) → length (m.chang
       let second : length (firsts bytes_eq keys) ≤ length keys = firsts_short bytes_eq keys in
       let third : length keys ≡ length ts = length-map ts (λ t. t.0) in
       let fourth : length ts ≤ length (flat_map m.changes_of batch) = filter_short _ (flat_map m.changes_of batch) in
-      let fifth : length (made ++ CommitFloor None (floor_of ops) ∷ []) ≡ length made + 1 = length-append made (CommitFloor None (floor_of ops) ∷ []) in
-      let sixth : length (grown m ops batch) ≡ length ops + length (made ++ CommitFloor None (floor_of ops) ∷ []) = length-append ops (made ++ CommitFloor None (floor_of ops) ∷ []) in
-      added (length (grown m ops batch)) (length ops) (length made) (length (firsts bytes_eq keys)) (length keys) (length ts) (length (flat_map m.changes_of batch)) (length batch) (length (made ++ CommitFloor None (floor_of ops) ∷ []))
-      first second third fourth fifth sixth (touches_short batch)
+      few (length made) (length (firsts bytes_eq keys)) (length keys) (length ts) (length (flat_map m.changes_of batch)) (length batch) first second third fourth (touches_short batch)
     where
-      added : (g n a b c d e k f : ℕ) → a ≤ b → b ≤ c → c ≡ d → d ≤ e → f ≡ a + 1 → g ≡ n + f → e ≤ 2 * k → g ≤ n + (1 + 2 * k)
-      added g n a b c d e k f p q r s t u v = omega (arith, p, q, r, s, t, u, v)
+      few : (a b c d e k : ℕ) → a ≤ b → b ≤ c → c ≡ d → d ≤ e → e ≤ 2 * k → a ≤ 2 * k
+      few a b c d e k p q r s t = omega (arith, p, q, r, s, t)
 
-  run_short : (bs : List (Block T)) (vs : List BlockVerdicts) (ops all : List AnyOp) → RunsTo m ops bs vs all → length all ≤ length ops + room_for bs
-  run_short [] [] ops all r = omega (arith, ap length r)
-  run_short [] (v ∷ vs) ops all r = absurd r
-  run_short (b ∷ bs) [] ops all r = absurd r
-  run_short (b ∷ bs) (v ∷ vs) ops all r =
-      let rest = run_short bs vs (grown m ops (batch_of b v)) all r.1 in
-      let one = grown_short ops (batch_of b v) in
-      let few = batch_short b v in
-      added (length all) (length (grown m ops (batch_of b v))) (length ops) (length (batch_of b v)) (transfers_in b) (room_for bs) rest one few
+  grown_short : (start : ℕ) (ops : List AnyOp) (batch : List T) → length (grown m start ops batch) ≤ length ops + (1 + 4 * length batch)
+  grown_short start ops batch =
+      let made = changed m.same m.rules m.values ops (touches m.changes_of batch) in
+      added (length (grown m start ops batch)) (length ops) (length made) (length batch) (appended_short (log_from start ops) made) (changed_short ops batch)
     where
-      added : (a g n k t r : ℕ) → a ≤ g + r → g ≤ n + (1 + 2 * k) → k ≤ t → a ≤ n + ((1 + 2 * t) + r)
+      added : (g n a k : ℕ) → g ≤ n + (1 + 2 * a) → a ≤ 2 * k → g ≤ n + (1 + 4 * k)
+      added g n a k p q = omega (arith, p, q)
+
+  run_short : (start : ℕ) (bs : List (Block T)) (vs : List BlockVerdicts) (ops all : List AnyOp) → RunsTo m start ops bs vs all → length all ≤ length ops + room_for bs
+  run_short start [] [] ops all r = omega (arith, ap length r)
+  run_short start [] (v ∷ vs) ops all r = absurd r
+  run_short start (b ∷ bs) [] ops all r = absurd r
+  run_short start (b ∷ bs) (v ∷ vs) ops all r =
+      let rest = run_short start bs vs (grown m start ops (batch_of b v)) all r.1 in
+      let one = grown_short start ops (batch_of b v) in
+      let few = batch_short b v in
+      added (length all) (length (grown m start ops (batch_of b v))) (length ops) (length (batch_of b v)) (transfers_in b) (room_for bs) rest one few
+    where
+      added : (a g n k t r : ℕ) → a ≤ g + r → g ≤ n + (1 + 4 * k) → k ≤ t → a ≤ n + ((1 + 4 * t) + r)
       added a g n k t r p q s = omega (arith, p, q, s)
 
   -- where there is room for all blocks, none makes the log too long
   pub never_full : (start : ℕ) (ops : List AnyOp) (bs : List (Block T)) (i : ℕ) → (start + length ops) + room_for bs ≤ 2 ^ 62 → IsFull m start ops bs i → ⊥
   never_full start ops bs i room f =
-      let before = run_short (take i bs) f.before.verdicts ops f.before.all f.before.runs in
-      let one = grown_short f.before.all (batch_of f.block f.verdict) in
+      let before = run_short start (take i bs) f.before.verdicts ops f.before.all f.before.runs in
+      let one = grown_short start f.before.all (batch_of f.block f.verdict) in
       let few = batch_short f.block f.verdict in
       let at = room_at bs i f.block f.at in
-      too_long start (length ops) (length f.before.all) (length (grown m f.before.all (batch_of f.block f.verdict))) (length (batch_of f.block f.verdict)) (transfers_in f.block) (room_for (take i bs)) (room_for bs) before one few at room f.long
+      too_long start (length ops) (length f.before.all) (length (grown m start f.before.all (batch_of f.block f.verdict))) (length (batch_of f.block f.verdict)) (transfers_in f.block) (room_for (take i bs)) (room_for bs) before one few at room f.long
     where
-      too_long : (s n a g k t r whole : ℕ) → a ≤ n + r → g ≤ a + (1 + 2 * k) → k ≤ t → r + (1 + 2 * t) ≤ whole → (s + n) + whole ≤ 2 ^ 62 → 2 ^ 62 < s + g → ⊥
+      too_long : (s n a g k t r whole : ℕ) → a ≤ n + r → g ≤ a + (1 + 4 * k) → k ≤ t → r + (1 + 4 * t) ≤ whole → (s + n) + whole ≤ 2 ^ 62 → 2 ^ 62 < s + g → ⊥
       too_long s n a g k t r whole p q u v w x = omega (arith, p, q, u, v, w, x)

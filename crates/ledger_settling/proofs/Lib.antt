@@ -1,8 +1,14 @@
+pub mod RaisedLemmas
+pub mod FloorLemmas
+pub mod ChangesLemmas
 pub mod ReplayLemmas
 pub mod OutcomeLemmas
 pub mod SlotLemmas
 pub mod RunLemmas
-pub mod AppendLemmas
+pub mod WriteLemmas
+pub mod ApplyLemmas
+pub mod ProperLemmas
+pub mod BatchLemmas
 pub mod ChoiceLemmas
 pub mod OpenLemmas
 pub mod RoundLemmas

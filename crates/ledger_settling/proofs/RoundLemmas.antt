@@ -39,7 +39,7 @@ use Rattle.ledger_settling.specs.Slots.{AreFound, opening_of, touched_first, App
 use Rattle.ledger_settling.specs.declared.fault.ReportFault.{ReportFault}
 use Rattle.ledger_settling.specs.declared.fault.ReportFault.TheVariants.{BadLog, BadValue, Rejected, Full, OutOfMemory}
 use Rattle.ledger_settling.proofs.ChoiceLemmas.{taken_append, greedy_append, greedy_alike}
-use Rattle.ledger_settling.proofs.AppendLemmas.{firsts_all, touched_all}
+use Rattle.ledger_settling.proofs.ApplyLemmas.{firsts_all, touched_all}
 use Rattle.ledger_settling.proofs.SlotLemmas.{settles_alike, settles_copy, opened_alike, opens_alike, within_of}
 
 module _ {T A E : Type 0} (same : A → A → Bool) (rules : Rules A E) (changes_of : T → List (List ℕ × Change E)) (accounts : BTreeMap (List ℕ) A) where
@@ -185,7 +185,7 @@ module _ {T A E : Type 0} (m : Meaning T A E) where
 
   -- what keeps chosen rounds from being appended keeps the block from settling
   pub rounds_fail : (log : LogView AnyOp) (i : ℕ) (rounds : List (List T)) (verdicts : List (List Bool)) (fault : ReportFault) → BlockSettles m log.ops (Rounds rounds) (Verdicts verdicts)
-      → AppendFails log i (grown m log.ops (taken (joined rounds) (joined verdicts))) fault → BlockFails m log i (Rounds rounds) fault
+      → AppendFails log i (grown m log.front log.ops (taken (joined rounds) (joined verdicts))) fault → BlockFails m log i (Rounds rounds) fault
   rounds_fail log i rounds verdicts (BadLog location) s h = h
   rounds_fail log i rounds verdicts (BadValue location) s h = h
   rounds_fail log i rounds verdicts (Rejected j r) s h = absurd h

@@ -21,12 +21,12 @@ use Rattle.ledger_job.specs.declared.block.Block.{Block}
 use Rattle.ledger_job.specs.declared.block.BlockVerdicts.{BlockVerdicts}
 
 module _ {T A E : Type 0} (m : Meaning T A E) where
-  pub RunsTo-push : (bs : List (Block T)) (vs : List BlockVerdicts) (ops all : List AnyOp) (b : Block T) (v : BlockVerdicts)
-      → RunsTo m ops bs vs all → Settles m all b v → RunsTo m ops (bs ++ b ∷ []) (vs ++ v ∷ []) (grown m all (batch_of b v))
-  RunsTo-push [] [] ops all b v r s = (subst (λ o. Settles m o b v) r s, ap (λ o. grown m o (batch_of b v)) r)
-  RunsTo-push [] (w ∷ vs) ops all b v r s = absurd r
-  RunsTo-push (c ∷ bs) [] ops all b v r s = absurd r
-  RunsTo-push (c ∷ bs) (w ∷ vs) ops all b v r s = (r.0, RunsTo-push bs vs (grown m ops (batch_of c w)) all b v r.1 s)
+  pub RunsTo-push : (start : ℕ) (bs : List (Block T)) (vs : List BlockVerdicts) (ops all : List AnyOp) (b : Block T) (v : BlockVerdicts)
+      → RunsTo m start ops bs vs all → Settles m all b v → RunsTo m start ops (bs ++ b ∷ []) (vs ++ v ∷ []) (grown m start all (batch_of b v))
+  RunsTo-push start [] [] ops all b v r s = (subst (λ o. Settles m o b v) r s, ap (λ o. grown m start o (batch_of b v)) r)
+  RunsTo-push start [] (w ∷ vs) ops all b v r s = absurd r
+  RunsTo-push start (c ∷ bs) [] ops all b v r s = absurd r
+  RunsTo-push start (c ∷ bs) (w ∷ vs) ops all b v r s = (r.0, RunsTo-push start bs vs (grown m start ops (batch_of c w)) all b v r.1 s)
 
 module _ {T A E : Type 0} (m : Meaning T A E) where
   -- a body's fault is its block's
@@ -42,12 +42,12 @@ module _ {T A E : Type 0} (m : Meaning T A E) where
 
   -- what the blocks before one made of a log
   abbrev runs_before : (target : Target) (kept : List AnyOp) (blocks : List (Block T)) (vs : List BlockVerdicts) (log : LogView AnyOp) (i : ℕ)
-      → RunsTo m kept (take i blocks) vs log.ops → log.front ≡ target.start → log_size log ≤ 2 ^ 62 → RunsBefore m target.start kept blocks i
+      → RunsTo m target.start kept (take i blocks) vs log.ops → log.front ≡ target.start → log_size log ≤ 2 ^ 62 → RunsBefore m target.start kept blocks i
   runs_before target kept blocks vs log i r f short = record { verdicts = vs; all = log.ops; runs = r; short = subst (λ n. n + length log.ops ≤ 2 ^ 62) f short }
 
   -- a block's fault is the run's
   pub run_fails : (target : Target) (kept : List AnyOp) (blocks : List (Block T)) (vs : List BlockVerdicts) (log : LogView AnyOp) (i : ℕ) (block : Block T) (fault : ReportFault)
-      → IsWhole target.start kept → All (IsReadable m.values) kept → RunsTo m kept (take i blocks) vs log.ops → slice_get blocks i ≡ Some block → log.front ≡ target.start → log_size log ≤ 2 ^ 62
+      → IsWhole target.start kept → All (IsReadable m.values) kept → RunsTo m target.start kept (take i blocks) vs log.ops → slice_get blocks i ≡ Some block → log.front ≡ target.start → log_size log ≤ 2 ^ 62
       → BlockFails m log i block fault → RunFails m target kept blocks fault
   run_fails target kept blocks vs log i block (BadLog location) w a r at f short h = absurd h
   run_fails target kept blocks vs log i block (BadValue location) w a r at f short h = absurd h
@@ -58,26 +58,26 @@ module _ {T A E : Type 0} (m : Meaning T A E) where
     w,
     a,
     subst (λ k. IsFull m target.start kept blocks k) (sym h.0)
-        (record { before = runs_before target kept blocks vs log i r f short; block = block; verdict = h.1.0; at = at; settles = h.1.1; long = subst (λ n. 2 ^ 62 < n + length (grown m log.ops (batch_of block h.1.0))) f h.1.2 }),
+        (record { before = runs_before target kept blocks vs log i r f short; block = block; verdict = h.1.0; at = at; settles = h.1.1; long = subst (λ n. 2 ^ 62 < n + length (grown m n log.ops (batch_of block h.1.0))) f h.1.2 }),
   )
   run_fails target kept blocks vs log i block OutOfMemory w a r at f short h = tt
 
 module _ {T A E : Type 0} (m : Meaning T A E) where
   -- what blocks make of operations begins with them
-  pub runs_more : (bs : List (Block T)) (vs : List BlockVerdicts) (ops all : List AnyOp) → RunsTo m ops bs vs all → (more : List AnyOp) × (all ≡ ops ++ more)
-  runs_more [] [] ops all r = ([], r ∙ sym (append-nil ops))
-  runs_more [] (v ∷ vs) ops all r = absurd r
-  runs_more (b ∷ bs) [] ops all r = absurd r
-  runs_more (b ∷ bs) (v ∷ vs) ops all r =
-      let us = appended m.same m.rules m.values ops (touches m.changes_of (batch_of b v)) in
-      let h = runs_more bs vs (grown m ops (batch_of b v)) all r.1 in
+  pub runs_more : (start : ℕ) (bs : List (Block T)) (vs : List BlockVerdicts) (ops all : List AnyOp) → RunsTo m start ops bs vs all → (more : List AnyOp) × (all ≡ ops ++ more)
+  runs_more start [] [] ops all r = ([], r ∙ sym (append-nil ops))
+  runs_more start [] (v ∷ vs) ops all r = absurd r
+  runs_more start (b ∷ bs) [] ops all r = absurd r
+  runs_more start (b ∷ bs) (v ∷ vs) ops all r =
+      let us = appended m.same m.rules m.values start ops (touches m.changes_of (batch_of b v)) in
+      let h = runs_more start bs vs (grown m start ops (batch_of b v)) all r.1 in
       (us ++ h.0, h.1 ∙ append_assoc ops us h.0)
 
-  pub runs_least : (bs : List (Block T)) (vs : List BlockVerdicts) (ops all : List AnyOp) → RunsTo m ops bs vs all → length ops ≤ length all
-  runs_least bs vs ops all r = let h = runs_more bs vs ops all r in omega (arith, ap length h.1, length-append ops h.0)
+  pub runs_least : (start : ℕ) (bs : List (Block T)) (vs : List BlockVerdicts) (ops all : List AnyOp) → RunsTo m start ops bs vs all → length ops ≤ length all
+  runs_least start bs vs ops all r = let h = runs_more start bs vs ops all r in omega (arith, ap length h.1, length-append ops h.0)
 
-  pub runs_first : (bs : List (Block T)) (vs : List BlockVerdicts) (ops all : List AnyOp) → RunsTo m ops bs vs all → take (length ops) all ≡ ops
-  runs_first bs vs ops all r = let h = runs_more bs vs ops all r in ap (take (length ops)) h.1 ∙ take_at ops h.0 (length ops) refl
+  pub runs_first : (start : ℕ) (bs : List (Block T)) (vs : List BlockVerdicts) (ops all : List AnyOp) → RunsTo m start ops bs vs all → take (length ops) all ≡ ops
+  runs_first start bs vs ops all r = let h = runs_more start bs vs ops all r in ap (take (length ops)) h.1 ∙ take_at ops h.0 (length ops) refl
 
   -- why the accounts of a part can't be read is why there is no report
   pub replay_run_fails : (target : Target) (front : ℕ) (ops : List AnyOp) (blocks : List (Block T)) (fault : ReportFault)

@@ -224,7 +224,7 @@ on_ok (Err e) P p = tt
 
 module _ {T A E : Type 0} (m : Meaning T A E) where
   -- what keeps a settled body from being appended keeps it from settling
-  pub body_fails : {X : Type 0} (log : LogView AnyOp) (i : ℕ) (batch : List T) (r : Result X ReportFault) → IsSettled m log.ops batch → IfErr r (AppendFails log i (grown m log.ops batch)) → IfErr r (BodyFails m log i batch)
+  pub body_fails : {X : Type 0} (log : LogView AnyOp) (i : ℕ) (batch : List T) (r : Result X ReportFault) → IsSettled m log.ops batch → IfErr r (AppendFails log i (grown m log.front log.ops batch)) → IfErr r (BodyFails m log i batch)
   body_fails log i batch (Ok x) s h = tt
   body_fails log i batch (Err (BadLog location)) s h = h
   body_fails log i batch (Err (BadValue location)) s h = h

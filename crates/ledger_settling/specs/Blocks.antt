@@ -1,10 +1,11 @@
 -- What settling blocks of transfers makes of a list of operations.
 use Rattle.std.specs.Prelude.{◌≡◌, ℕ, ◌+◌, ◌^◌, ◌<◌, ◌≤◌, ◌++◌, Bool, not, List, [], ◌∷◌, length, map, filter, filter_map, take, slice_get, Option, None, Some, IsSome, unwrap_or, option_map, option_and_then, bytes_eq, ⊤, ◌⊎◌}
-use Rattle.std.specs.List.{flat_map, last_or}
-use Rattle.ledger_log.specs.Any.{any_floor, any_write}
-use Rattle.ledger_log.specs.View.{value_at}
+use Rattle.std.specs.List.{flat_map}
+use Rattle.ledger_log.specs.Any.{any_floor, any_write, any_commit}
+use Rattle.ledger_log.specs.View.{LogView, value_at}
 use Rattle.ledger_log.specs.declared.any.AnyOp.{AnyOp}
 use Rattle.ledger_log.specs.declared.any.AnyOp.TheVariants.{Update, Delete, CommitFloor}
+use Rattle.ledger_raising.specs.Raised.{raised}
 use Rattle.ledger_transfers.specs.Rules.{Rules}
 use Rattle.ledger_transfers.specs.Touches.{touches, total_of, IsSumOffence, IsWithinSums}
 use Rattle.ledger_transfers.specs.Settling.{opened, after, slot_of, Settled, HasFirstOffence}
@@ -34,9 +35,9 @@ abbrev pub firsts : {K : Type 0} → (K → K → Bool) → List K → List K
 firsts eq [] = []
 firsts eq (k ∷ ks) = k ∷ filter (λ q. not (eq k q)) (firsts eq ks)
 
--- the floor of the last commit
-abbrev pub floor_of : List AnyOp → ℕ
-floor_of ops = unwrap_or (last_or None (filter_map any_floor ops)) 0
+-- these operations, the first at `start`, as a log
+abbrev pub log_from : ℕ → List AnyOp → LogView AnyOp
+log_from start ops = record { front = start; pinned = []; ops = ops }
 
 module _ {A : Type 0} (values : Values A) where
   -- the account of a key after these operations: the one that the value of its last Update spells, if no Delete is later
@@ -66,13 +67,13 @@ module _ {A E : Type 0} (same : A → A → Bool) (rules : Rules A E) (values : 
   abbrev pub changed : List AnyOp → List (List ℕ × Change E) → List AnyOp
   changed ops ts = filter_map (λ key. written values key (slot_at ops ts key)) (firsts bytes_eq (map (λ t. t.0) ts))
 
-  -- what settled touches append: their changes, and a commit that keeps the floor
-  abbrev pub appended : List AnyOp → List (List ℕ × Change E) → List AnyOp
-  appended ops ts = changed ops ts ++ CommitFloor None (floor_of ops) ∷ []
+  -- what settled touches append: their changes, a copy of an old operation that still counts for each, and a commit whose floor is as high as these allow
+  abbrev pub appended : ℕ → List AnyOp → List (List ℕ × Change E) → List AnyOp
+  appended start ops ts = raised any_floor any_write any_commit (log_from start ops) (changed ops ts) None
 
   -- the operations after settled touches
-  abbrev pub with_touches : List AnyOp → List (List ℕ × Change E) → List AnyOp
-  with_touches ops ts = ops ++ appended ops ts
+  abbrev pub with_touches : ℕ → List AnyOp → List (List ℕ × Change E) → List AnyOp
+  with_touches start ops ts = ops ++ appended start ops ts
 
 module _ {T A E : Type 0} (m : Meaning T A E) where
   -- the account that a key opens with
@@ -90,8 +91,8 @@ module _ {T A E : Type 0} (m : Meaning T A E) where
       IsSumOffence bytes_eq ts r ⊎ (IsWithinSums bytes_eq ts × HasFirstOffence bytes_eq m.rules (opening ops) ts r)
 
   -- the operations after a settled batch
-  abbrev pub grown : List AnyOp → List T → List AnyOp
-  grown ops batch = with_touches m.same m.rules m.values ops (touches m.changes_of batch)
+  abbrev pub grown : ℕ → List AnyOp → List T → List AnyOp
+  grown start ops batch = with_touches m.same m.rules m.values start ops (touches m.changes_of batch)
 
 -- the lists, one after another
 abbrev pub joined : {X : Type 0} → List (List X) → List X
@@ -112,17 +113,23 @@ module _ {T A E : Type 0} (m : Meaning T A E) where
       AreGreedy (IsSettled m ops) [] (joined rounds) (joined verdicts) × (map length verdicts ≡ map length rounds)
   Settles ops block verdicts = ⊥
 
-  -- the blocks settle one after another, with these verdicts, and the operations grow to `all`
-  abbrev pub RunsTo : List AnyOp → List (Block T) → List BlockVerdicts → List AnyOp → Type 0
-  RunsTo ops [] [] all = all ≡ ops
-  RunsTo ops (b ∷ bs) (v ∷ vs) all = Settles ops b v × RunsTo (grown m ops (batch_of b v)) bs vs all
-  RunsTo ops bs vs all = ⊥
+  -- the blocks settle one after another, with these verdicts, and the operations, the first at `start`, grow to `all`
+  abbrev pub RunsTo : ℕ → List AnyOp → List (Block T) → List BlockVerdicts → List AnyOp → Type 0
+  RunsTo start ops [] [] all = all ≡ ops
+  RunsTo start ops (b ∷ bs) (v ∷ vs) all = Settles ops b v × RunsTo start (grown m start ops (batch_of b v)) bs vs all
+  RunsTo start ops bs vs all = ⊥
+
+  -- the operations with the blocks' changes alone: without copies, without commits
+  abbrev pub with_changes : List AnyOp → List (Block T) → List BlockVerdicts → List AnyOp
+  with_changes ops [] vs = ops
+  with_changes ops (b ∷ bs) [] = ops
+  with_changes ops (b ∷ bs) (v ∷ vs) = with_changes (ops ++ changed m.same m.rules m.values ops (touches m.changes_of (batch_of b v))) bs vs
 
   -- the blocks before place i settle and keep the log within 2^62, and their operations and verdicts are these
   pub record RunsBefore (start : ℕ) (kept : List AnyOp) (blocks : List (Block T)) (i : ℕ) : Type 0 where
     pub verdicts : List BlockVerdicts
     pub all : List AnyOp
-    pub runs : RunsTo kept (take i blocks) verdicts all
+    pub runs : RunsTo start kept (take i blocks) verdicts all
     pub short : start + length all ≤ 2 ^ 62
 
   -- behind such blocks the one at i is a body, and it doesn't settle, with this offence
@@ -139,4 +146,4 @@ module _ {T A E : Type 0} (m : Meaning T A E) where
     pub verdict : BlockVerdicts
     pub at : slice_get blocks i ≡ Some block
     pub settles : Settles before.all block verdict
-    pub long : 2 ^ 62 < start + length (grown m before.all (batch_of block verdict))
+    pub long : 2 ^ 62 < start + length (grown m start before.all (batch_of block verdict))

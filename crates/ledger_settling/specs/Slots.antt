@@ -1,22 +1,32 @@
 -- Slots of keys, in order.
-use Rattle.std.specs.Prelude.{◌≡◌, ℕ, ◌+◌, ◌^◌, ◌<◌, ◌++◌, Bool, List, [], ◌∷◌, length, map, filter_map, slice_get, Option, None, Some, ◌⊎◌, bytes_eq, ⊤}
-use Rattle.std.specs.List.{zip}
+use Rattle.std.specs.Prelude.{◌≡◌, ℕ, ◌+◌, ◌^◌, ◌<◌, ◌++◌, Bool, false, List, [], length, map, filter_map, slice_get, Option, None, Some, ◌⊎◌, bytes_eq, ⊤}
+use Rattle.std.specs.List.{AllByRecursion, zip}
 use Rattle.std.specs.BTreeMap.{BTreeMap}
 use Rattle.ledger_log.specs.declared.any.AnyOp.{AnyOp}
-use Rattle.ledger_log.specs.declared.any.AnyOp.TheVariants.{CommitFloor}
-use Rattle.ledger_log.specs.View.{LogView}
+use Rattle.ledger_log.specs.declared.any.AnyOp.TheVariants.{Update, Delete}
+use Rattle.ledger_log.specs.Any.{any_floor, any_write, any_commit, any_spelling}
+use Rattle.ledger_log.specs.View.{LogView, log_size}
+use Rattle.ledger_raising.specs.Raised.{raised}
+use Rattle.ledger_raising.specs.Updates.{update, deletion}
+use Rattle.ledger_chain.specs.Chain.{state_of}
+use Rattle.ledger_chain.specs.Changes.{changes}
+use Rattle.ledger_chain.specs.Writes.{Write, settled}
+use Rattle.ledger_batches.specs.Batches.{BatchView}
+use Rattle.sha2.specs.Sha256.{sha256}
 use Rattle.ledger_transfers.specs.Rules.{Rules, SameOutcome}
 use Rattle.ledger_transfers.specs.Touches.{IsSumOffence, IsWithinSums}
 use Rattle.ledger_transfers.specs.Settling.{opened, SameSlot, HasFirstOffence}
 use Rattle.ledger_transfers.specs.declared.change.Change.{Change}
 use Rattle.ledger_transfers.specs.declared.slot.Slot.{Slot}
+use Rattle.ledger_transfers.specs.declared.slot.Slot.TheVariants.{Keep, Put, Delete as Remove}
 use Rattle.ledger_transfers.specs.declared.fault.PlanFault.{PlanFault}
 use Rattle.ledger_transfers.specs.declared.fault.PlanFault.TheVariants.{Rejected as PlanRejected, OutOfMemory as PlanOutOfMemory}
-use Rattle.ledger_settling.specs.Reports.{held}
+use Rattle.ledger_settling.specs.Reports.{held, NoneInitial}
 use Rattle.ledger_managed.specs.Values.{Values}
-use Rattle.ledger_log.specs.declared.fault.LogFault.{LogFault}
-use Rattle.ledger_log.specs.declared.fault.LogFault.TheVariants.{Full as LogFull, OutOfMemory as LogMemory}
-use Rattle.ledger_settling.specs.Blocks.{Meaning, firsts, floor_of, written, IsSettled, IsOffence, grown, batch_of, Settles}
+use Rattle.ledger_log.specs.declared.fault.LogFault.TheVariants.{Full as LogFull}
+use Rattle.ledger_chain.specs.declared.fault.ManagedFault.{ManagedFault}
+use Rattle.ledger_chain.specs.declared.fault.ManagedFault.TheVariants.{StaleRead, StaleBatch, Log as ManagedLog, OutOfMemory as ManagedMemory}
+use Rattle.ledger_settling.specs.Blocks.{Meaning, firsts, written, IsSettled, IsOffence, grown, batch_of, Settles}
 use Rattle.ledger_job.specs.declared.block.Block.{Block}
 use Rattle.ledger_job.specs.declared.block.Block.TheVariants.{Body, Rounds}
 use Rattle.ledger_transfers.specs.declared.fault.Rejection.{Rejection}
@@ -37,9 +47,54 @@ opening_of rules accounts key = opened rules (held accounts key)
 abbrev pub writes_of : {A : Type 0} → Values A → List (List ℕ) → List (Slot A) → List AnyOp
 writes_of values keys slots = filter_map (λ p. written values p.0 p.1) (zip keys slots)
 
--- the operations with what these slots write, and a commit that keeps the floor
-abbrev pub with_slots : {A : Type 0} → Values A → List AnyOp → List (List ℕ) → List (Slot A) → List AnyOp
-with_slots values ops keys slots = ops ++ (writes_of values keys slots ++ CommitFloor None (floor_of ops) ∷ [])
+-- the operation of a write
+abbrev pub op_of : Write → AnyOp
+op_of (key, Some value) = Update key value
+op_of (key, None) = Delete key
+
+-- the write of a slot
+abbrev pub entry_of : {A : Type 0} → Values A → List ℕ → Slot A → Option Write
+entry_of values key Keep = None
+entry_of values key Remove = Some (key, None)
+entry_of values key (Put a) = Some (key, Some (values.value_of a))
+
+-- the writes of the slots of these keys, in order
+abbrev pub entries_of : {A : Type 0} → Values A → List (List ℕ) → List (Slot A) → List Write
+entries_of values keys slots = filter_map (λ p. entry_of values p.0 p.1) (zip keys slots)
+
+-- what is put isn't the account of a key without a value
+abbrev pub IsProper : {A E : Type 0} → (A → A → Bool) → Rules A E → Slot A → Type 0
+IsProper same rules Keep = ⊤
+IsProper same rules Remove = ⊤
+IsProper same rules (Put a) = same a rules.initial ≡ false
+
+-- in none of these slots
+abbrev pub AreProper : {A E : Type 0} → (A → A → Bool) → Rules A E → List (Slot A) → Type 0
+AreProper same rules slots = AllByRecursion (IsProper same rules) slots
+
+-- where no account of a map was that of a key without a value, none is in another map
+abbrev pub StaysProper : {A E : Type 0} → (A → A → Bool) → Rules A E → BTreeMap (List ℕ) A → BTreeMap (List ℕ) A → Type 0
+StaysProper same rules before after = NoneInitial same rules (held before) → NoneInitial same rules (held after)
+
+-- a batch over the log, without writes
+abbrev pub fresh_batch : LogView AnyOp → BatchView AnyOp
+fresh_batch log = record { chain = record { base = state_of sha256 any_spelling log; links = [] }; writes = []; metadata = None }
+
+-- what a batch over the log that makes these writes changes
+abbrev pub changes_on : LogView AnyOp → List Write → List AnyOp
+changes_on log writes = changes any_write update deletion (fresh_batch log).chain log (settled writes)
+
+-- what a batch of these changes appends to the log
+abbrev pub raised_on : LogView AnyOp → List AnyOp → List AnyOp
+raised_on log changes = raised any_floor any_write any_commit log changes None
+
+-- the operations of the log with the batch of what these slots write
+abbrev pub with_slots : {A : Type 0} → Values A → LogView AnyOp → List (List ℕ) → List (Slot A) → List AnyOp
+with_slots values log keys slots = log.ops ++ raised_on log (writes_of values keys slots)
+
+-- a batch over the log that writes what these slots do changes that, each key once and no key that has no value to none
+abbrev pub Changes : {A : Type 0} → Values A → LogView AnyOp → List (List ℕ) → List (Slot A) → Type 0
+Changes values log keys slots = changes_on log (entries_of values keys slots) ≡ writes_of values keys slots
 
 -- each key of the touches at its first place
 abbrev pub touched_first : {E : Type 0} → List (List ℕ × Change E) → List (List ℕ)
@@ -58,16 +113,17 @@ AppendFails log i all (Rejected j r) = ⊥
 AppendFails log i all (BadLog location) = ⊥
 AppendFails log i all (BadValue location) = ⊥
 
--- a log that took a batch refused it for its length, or memory was wanting
-abbrev pub IsFullOrMemory : LogFault → Type 0
-IsFullOrMemory (LogFull size) = ⊤
-IsFullOrMemory LogMemory = ⊤
-IsFullOrMemory _ = ⊥
+-- why a batch with these operations behind the log isn't sealed: they make the log too long, or want of memory
+abbrev pub SealFails : LogView AnyOp → List AnyOp → ManagedFault → Type 0
+SealFails log ops ManagedMemory = ⊤
+SealFails log ops (ManagedLog fault) = (fault ≡ LogFull (log_size log)) × (2 ^ 62 < log_size log + length ops)
+SealFails log ops (StaleRead size root) = ⊥
+SealFails log ops (StaleBatch size root) = ⊥
 
--- what a block answers where the log refused its operations
-abbrev pub append_fault : ℕ → LogFault → ReportFault
-append_fault i (LogFull size) = Full i
-append_fault i _ = OutOfMemory
+-- what a block answers where its batch isn't sealed
+abbrev pub seal_fault : ℕ → ManagedFault → ReportFault
+seal_fault i (ManagedLog fault) = Full i
+seal_fault i fault = OutOfMemory
 
 -- why a body has no slots
 abbrev pub SlotsFail : {A E : Type 0} → Rules A E → (List ℕ → A) → List (List ℕ × Change E) → PlanFault (List ℕ) → Type 0
@@ -83,7 +139,7 @@ module _ {T A E : Type 0} (m : Meaning T A E) where
   -- a body doesn't settle, with this offence, or it does and its operations make the log too long, or want of memory
   abbrev pub BodyFails : LogView AnyOp → ℕ → List T → ReportFault → Type 0
   BodyFails log i batch (Rejected j r) = (j ≡ i) × IsOffence m log.ops batch r
-  BodyFails log i batch (Full j) = (j ≡ i) × IsSettled m log.ops batch × (2 ^ 62 < log.front + length (grown m log.ops batch))
+  BodyFails log i batch (Full j) = (j ≡ i) × IsSettled m log.ops batch × (2 ^ 62 < log.front + length (grown m log.front log.ops batch))
   BodyFails log i batch OutOfMemory = ⊤
   BodyFails log i batch (BadLog location) = ⊥
   BodyFails log i batch (BadValue location) = ⊥
@@ -91,7 +147,7 @@ module _ {T A E : Type 0} (m : Meaning T A E) where
   -- why a block, at place i, doesn't settle on a log
   abbrev pub BlockFails : LogView AnyOp → ℕ → Block T → ReportFault → Type 0
   BlockFails log i block (Rejected j r) = (j ≡ i) × BodyOffends log.ops block r
-  BlockFails log i block (Full j) = (j ≡ i) × ((v : BlockVerdicts) × Settles m log.ops block v × (2 ^ 62 < log.front + length (grown m log.ops (batch_of block v))))
+  BlockFails log i block (Full j) = (j ≡ i) × ((v : BlockVerdicts) × Settles m log.ops block v × (2 ^ 62 < log.front + length (grown m log.front log.ops (batch_of block v))))
   BlockFails log i block OutOfMemory = ⊤
   BlockFails log i block (BadLog location) = ⊥
   BlockFails log i block (BadValue location) = ⊥

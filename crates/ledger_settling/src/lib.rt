@@ -4,7 +4,7 @@
 //!   Part --open--> Log --replay--> accounts
 //!                   ^                 |
 //!                   |        per block: plan or selection --> slots
-//!                   +--append_batch-- one operation per changed key, and a commit
+//!                   +--apply-- a batch: one operation per changed key, copies, a commit
 //! ```
 //!
 //! Each block settles against the accounts that it opens with: a credit of the block funds no debit of the
@@ -12,7 +12,7 @@
 //! in `specs/Blocks.antt`; why there is none is `RunFails` of `specs/Faults.antt`.
 #![tactic(auto)]
 
-mod append;
+mod applying;
 mod fault;
 mod open;
 mod replay;

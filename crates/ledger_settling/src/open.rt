@@ -3,6 +3,7 @@ ghost use Rattle.std.specs.Prelude.{◌≡◌, ◌≤◌, ℕ, IfOk, IfErr, OnOk
 ghost use Rattle.ledger_settling.specs.Blocks.{meaning, IsReadable, RunsTo};
 ghost use Rattle.ledger_settling.specs.Reports.{Spans, ReportOf, IsReplay, IsWhole, leaves_of};
 ghost use Rattle.ledger_settling.specs.Faults.{RunFails, OpenFails};
+ghost use Rattle.ledger_settling.specs.Slots.{StaysProper};
 
 use crate::fault::ReportFault;
 use crate::replay::{count_of, op_behind, replay};
@@ -82,9 +83,10 @@ fn settle_blocks<
     requires whole { IsWhole target.now.start log.old.ops }
     requires readable { All (IsReadable A.values) log.old.ops }
     requires replayed { IsReplay A.eq A.values accounts.old log.old.ops }
-    ensures runs { IfOk result (λ verdicts. RunsTo (meaning T.changes_of A.eq A.rules A.values) log.old.ops
-        blocks.now verdicts.items log.new.ops) }
+    ensures runs { IfOk result (λ verdicts. RunsTo (meaning T.changes_of A.eq A.rules A.values)
+        target.now.start log.old.ops blocks.now verdicts.items log.new.ops) }
     ensures accounts { OnOk result (IsReplay A.eq A.values accounts.new log.new.ops) }
+    ensures initial { OnOk result (StaysProper A.eq A.rules accounts.old accounts.new) }
     ensures front { OnOk result (log.new.front ≡ log.old.front) }
     ensures nodes { OnOk result (log.new.pinned ≡ log.old.pinned) }
     ensures fails { IfErr result

@@ -3,7 +3,7 @@
 //! ```text
 //!   a round --touch--> new keys --reads--> register --apply--> verdicts
 //!                                                        |
-//!   after the last round: what was taken --settle--> slots --> append_slots
+//!   after the last round: what was taken --settle--> slots --> apply_slots
 //! ```
 ghost use Rattle.std.specs.Prelude.{◌≡◌, ◌≤◌, ◌++◌, ◌∷◌, [], ℕ, List as Items, IfOk, IfErr, OnOk, IsSome, length, map, drop, filter, not, position, slice_get, unwrap_or, option_copied, option_and_then, bytes_eq, if◌then◌else◌};
 ghost use Rattle.std.specs.List.{All, flat_map};
@@ -21,13 +21,14 @@ ghost use Rattle.ledger_transfers.specs.declared.slot.Slot.TheVariants.{Keep};
 ghost use Rattle.ledger_settling.specs.Blocks.{meaning, grown, joined, batch_of, Settles};
 ghost use Rattle.ledger_settling.specs.Reports.{IsReplay};
 ghost use Rattle.ledger_settling.specs.Rounds.{AreOpened, AreChosen};
-ghost use Rattle.ledger_settling.specs.Slots.{AreReads, AreFound, BlockFails, opening_of, touched_first};
+ghost use Rattle.ledger_settling.specs.Slots.{AreReads, AreFound, BlockFails, StaysProper, fresh_batch, opening_of, touched_first};
 
-use crate::append::append_slots;
+use crate::applying::{apply_slots, staged_more, staged_over};
 use crate::fault::ReportFault;
 use crate::report::Accounts;
 use crate::slots::{reads_of, touched_keys};
 use indexmap::IndexSet;
+use ledger_batches::AnyStaged;
 use ledger_codec::{List, OutOfMemory};
 use ledger_log::{AnyFamily, Key, Log};
 use ledger_managed::AccountValue;
@@ -131,28 +132,42 @@ fn choose_round<T: Transfer<Key = Key, Account = A>, A: AccountValue>(
     Ok(List::from_vec(verdicts))
 }
 
-/// Chooses the candidates of each round behind those that were taken before.
+/// What rounds of candidates came to.
+#[derive(Drop)]
+struct Chosen {
+    /// The verdicts of each round.
+    verdicts: Vec<List<bool>>,
+    /// The batch with the keys of all rounds.
+    staged: AnyStaged,
+}
+
+/// Chooses the candidates of each round behind those that were taken before, and stages its keys.
 fn choose_rounds<T: Transfer<Key = Key, Account = A>, A: AccountValue>(
     alloc: Global,
+    log: &Log<AnyFamily, Sha256Hasher>,
     selection: &mut Selection<Key, A>,
     accounts: &Accounts<A>,
     changes: &mut Vec<(Key, Change<A::Effect>)>,
     rounds: &[List<T>],
-) -> Result<Vec<List<bool>>, OutOfMemory>
-    requires { AreOpened A.eq accounts.now selection.old.0 selection.old.1 }
+    mut staged: AnyStaged,
+) -> Result<Chosen, OutOfMemory>
+    requires opened { AreOpened A.eq accounts.now selection.old.0 selection.old.1 }
+    requires staged { staged.batch ≡ fresh_batch log.now }
     ensures opened { OnOk result (AreOpened A.eq accounts.now selection.new.0 selection.new.1) }
-    ensures cut { IfOk result (λ verdicts. map length verdicts.items ≡ map length rounds.now) }
-    ensures chosen { IfOk result (λ verdicts. AreChosen A.eq A.rules T.changes_of accounts.now
-        selection.old.1 selection.new.1 (joined rounds.now) (joined verdicts.items)) }
-    ensures changes { IfOk result (λ verdicts. changes.new.items ≡ changes.old.items
-        ++ flat_map T.changes_of (taken (joined rounds.now) (joined verdicts.items))) }
+    ensures cut { IfOk result (λ c. map length c.verdicts.items ≡ map length rounds.now) }
+    ensures chosen { IfOk result (λ c. AreChosen A.eq A.rules T.changes_of accounts.now
+        selection.old.1 selection.new.1 (joined rounds.now) (joined c.verdicts.items)) }
+    ensures changes { IfOk result (λ c. changes.new.items ≡ changes.old.items
+        ++ flat_map T.changes_of (taken (joined rounds.now) (joined c.verdicts.items))) }
+    ensures staged { IfOk result (λ c. c.staged.batch ≡ fresh_batch log.now) }
 {
     let mut verdicts = Vec::new(alloc);
     for round in rounds {
         let chosen = choose_round(alloc, selection, accounts, changes, round.as_slice())?;
+        staged = staged_more(log, staged, selection.keys())?;
         verdicts.push(chosen)?;
     }
-    Ok(verdicts)
+    Ok(Chosen { verdicts, staged })
 }
 
 /// The place of each key among those that a selection touched.
@@ -275,18 +290,29 @@ pub(crate) fn settle_rounds<
     ensures grown { IfOk result
         (λ v. log.new
         ≡
-        record log.old { ops = grown (meaning T.changes_of A.eq A.rules A.values) log.old.ops (taken (joined rounds.now) (joined v)) }) }
+        record log.old { ops = grown (meaning T.changes_of A.eq A.rules A.values) log.old.front log.old.ops (taken (joined rounds.now) (joined v)) }) }
     ensures accounts { OnOk result (IsReplay A.eq A.values accounts.new log.new.ops) }
+    ensures initial { OnOk result (StaysProper A.eq A.rules accounts.old accounts.new) }
     ensures fails { IfErr result (BlockFails (meaning T.changes_of A.eq A.rules A.values) log.old place
         (Rounds rounds.now)) }
 {
     let mut selection = Selection::new(rt, alloc);
     let mut changes = Vec::new(alloc);
-    let verdicts = choose_rounds(alloc, &mut selection, accounts, &mut changes, rounds)?;
+    let staged = staged_over(rt, alloc, log, selection.keys())?;
+    let chosen = choose_rounds(
+        alloc,
+        log,
+        &mut selection,
+        accounts,
+        &mut changes,
+        rounds,
+        staged,
+    )?;
+    let Chosen { verdicts, staged } = chosen;
     let order = taken_keys(rt, alloc, changes)?;
     let keys = order.as_slice();
     let slots = selected_slots(rt, alloc, selection, accounts, keys, strategy)?;
-    match append_slots(alloc, log, accounts, place, keys, slots) {
+    match apply_slots(alloc, log, accounts, place, staged, keys, slots) {
         Ok(()) => Ok(List::from_vec(verdicts)),
         Err(fault) => Err(fault),
     }

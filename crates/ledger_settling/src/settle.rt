@@ -2,9 +2,9 @@
 ghost use Rattle.std.specs.Prelude.{◌≡◌, IfOk, IfErr, OnOk};
 ghost use Rattle.ledger_settling.specs.Blocks.{meaning, grown, IsSettled, batch_of, Settles};
 ghost use Rattle.ledger_settling.specs.Reports.{IsReplay};
-ghost use Rattle.ledger_settling.specs.Slots.{BodyFails, BlockFails};
+ghost use Rattle.ledger_settling.specs.Slots.{BodyFails, BlockFails, StaysProper};
 
-use crate::append::append_slots;
+use crate::applying::{apply_slots, staged_over};
 use crate::fault::ReportFault;
 use crate::report::Accounts;
 use crate::rounds::settle_rounds;
@@ -40,8 +40,9 @@ fn settle_body<
     ensures grown { OnOk result
         (log.new
         ≡
-        record log.old { ops = grown (meaning T.changes_of A.eq A.rules A.values) log.old.ops batch.now }) }
+        record log.old { ops = grown (meaning T.changes_of A.eq A.rules A.values) log.old.front log.old.ops batch.now }) }
     ensures accounts { OnOk result (IsReplay A.eq A.values accounts.new log.new.ops) }
+    ensures initial { OnOk result (StaysProper A.eq A.rules accounts.old accounts.new) }
     ensures fails { IfErr result (BodyFails (meaning T.changes_of A.eq A.rules A.values) log.old block
         batch.now) }
 {
@@ -53,7 +54,12 @@ fn settle_body<
         Err(PlanFault::OutOfMemory) => return Err(ReportFault::OutOfMemory),
     };
     let Planned { keys, slots } = planned;
-    append_slots(alloc, log, accounts, block, keys.as_slice(), slots)
+    let keys = keys.as_slice();
+    let staged = match staged_over(rt, alloc, log, keys) {
+        Ok(staged) => staged,
+        Err(_) => return Err(ReportFault::OutOfMemory),
+    };
+    apply_slots(alloc, log, accounts, block, staged, keys, slots)
 }
 
 /// Settles a block, at this place of the blocks, on the log.
@@ -77,8 +83,9 @@ pub(crate) fn settle_block<
     ensures grown { IfOk result
         (λ v. log.new
         ≡
-        record log.old { ops = grown (meaning T.changes_of A.eq A.rules A.values) log.old.ops (batch_of block.now v) }) }
+        record log.old { ops = grown (meaning T.changes_of A.eq A.rules A.values) log.old.front log.old.ops (batch_of block.now v) }) }
     ensures accounts { OnOk result (IsReplay A.eq A.values accounts.new log.new.ops) }
+    ensures initial { OnOk result (StaysProper A.eq A.rules accounts.old accounts.new) }
     ensures fails { IfErr result (BlockFails (meaning T.changes_of A.eq A.rules A.values) log.old place
         block.now) }
 {

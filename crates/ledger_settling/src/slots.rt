@@ -1,5 +1,5 @@
 //! The slots of a body's keys, and how slots are written.
-ghost use Rattle.std.specs.Prelude.{◌≡◌, ◌++◌, List as Items, length, IfOk, IfErr, OnOk, bytes_eq, option_to_list, option_and_then};
+ghost use Rattle.std.specs.Prelude.{◌≡◌, ◌++◌, List as Items, length, map, IfOk, IfErr, OnOk, MatchOption, ⊤, bytes_eq, option_to_list, option_and_then};
 ghost use Rattle.std.specs.Map.{keys_of};
 ghost use Rattle.ledger_log.specs.declared.any.AnyOp.{AnyOp as Op};
 ghost use Rattle.ledger_transfers.specs.Touches.{touches};
@@ -7,12 +7,12 @@ ghost use Rattle.ledger_transfers.specs.Registering.{AreSettled};
 ghost use Rattle.ledger_settling.specs.Blocks.{written};
 ghost use Rattle.ledger_settling.specs.Reports.{IsReplay, held};
 ghost use Rattle.ledger_transfers.specs.Rules.{SameOutcome};
-ghost use Rattle.ledger_settling.specs.Slots.{AreReads, SlotsFail, opening_of, touched_first, writes_of};
+ghost use Rattle.ledger_settling.specs.Slots.{AreProper, AreReads, IsProper, SlotsFail, StaysProper, entries_of, entry_of, op_of, opening_of, touched_first};
 
 use crate::report::Accounts;
 use indexmap::IndexSet;
 use ledger_codec::OutOfMemory;
-use ledger_log::{AnyOp, Key};
+use ledger_log::{Key, Value};
 use ledger_managed::AccountValue;
 use ledger_strategy::Strategy;
 use ledger_transfers::{Change, Plan, PlanFault, Seeded, Slot, Transfer};
@@ -106,27 +106,29 @@ pub(crate) fn body_slots<
     Ok(Planned { keys, slots })
 }
 
-/// Writes one slot: an operation where the account changes, and the account.
+/// Writes one slot: a write where the account changes, and the account.
 fn write_slot<A: AccountValue>(
     accounts: &mut Accounts<A>,
-    ops: &mut Vec<AnyOp>,
+    writes: &mut Vec<(Key, Option<Value>)>,
     key: Key,
     slot: Slot<A>,
 ) -> Result<(), OutOfMemory>
-    ensures ops { OnOk result (ops.new.items ≡ ops.old.items
-        ++ option_to_list (written A.values key slot)) }
+    ensures writes { OnOk result (writes.new.items ≡ writes.old.items
+        ++ option_to_list (entry_of A.values key slot)) }
     ensures replay { OnOk result ((base : Items Op) → IsReplay A.eq A.values accounts.old base
         → IsReplay A.eq A.values accounts.new (base ++ option_to_list (written A.values key slot))) }
+    ensures initial { OnOk result (IsProper A.eq A.rules slot
+        → StaysProper A.eq A.rules accounts.old accounts.new) }
 {
     match slot {
         Slot::Keep => Ok(()),
         Slot::Delete => {
-            ops.push(AnyOp::Delete(key))?;
+            writes.push((key, None))?;
             accounts.remove(&key);
             Ok(())
         }
         Slot::Put(account) => {
-            ops.push(AnyOp::Update(key, account.to_value()))?;
+            writes.push((key, Some(account.to_value())))?;
             accounts.insert(key, account)?;
             Ok(())
         }
@@ -136,18 +138,20 @@ fn write_slot<A: AccountValue>(
 /// Writes a slot, if there is one.
 fn write_found<A: AccountValue>(
     accounts: &mut Accounts<A>,
-    ops: &mut Vec<AnyOp>,
+    writes: &mut Vec<(Key, Option<Value>)>,
     key: Key,
     slot: Option<Slot<A>>,
 ) -> Result<(), OutOfMemory>
-    ensures ops { OnOk result (ops.new.items ≡ ops.old.items
-        ++ option_to_list (option_and_then (written A.values key) slot)) }
+    ensures writes { OnOk result (writes.new.items ≡ writes.old.items
+        ++ option_to_list (option_and_then (entry_of A.values key) slot)) }
     ensures replay { OnOk result ((base : Items Op) → IsReplay A.eq A.values accounts.old base
         → IsReplay A.eq A.values accounts.new
         (base ++ option_to_list (option_and_then (written A.values key) slot))) }
+    ensures initial { OnOk result (MatchOption slot ⊤ (IsProper A.eq A.rules)
+        → StaysProper A.eq A.rules accounts.old accounts.new) }
 {
     match slot {
-        Some(slot) => write_slot(accounts, ops, key, slot),
+        Some(slot) => write_slot(accounts, writes, key, slot),
         None => Ok(()),
     }
 }
@@ -158,15 +162,17 @@ pub(crate) fn write_slots<A: AccountValue>(
     accounts: &mut Accounts<A>,
     keys: &[Key],
     mut slots: Vec<Slot<A>>,
-) -> Result<Vec<AnyOp>, OutOfMemory>
-    ensures ops { IfOk result (λ ops. ops.items ≡ writes_of A.values keys.now slots.items) }
-    ensures replay { IfOk result (λ ops. (base : Items Op) → IsReplay A.eq A.values accounts.old base
-        → IsReplay A.eq A.values accounts.new (base ++ ops.items)) }
+) -> Result<Vec<(Key, Option<Value>)>, OutOfMemory>
+    ensures writes { IfOk result (λ writes. writes.items ≡ entries_of A.values keys.now slots.items) }
+    ensures replay { IfOk result (λ writes. (base : Items Op) → IsReplay A.eq A.values accounts.old base
+        → IsReplay A.eq A.values accounts.new (base ++ map op_of writes.items)) }
+    ensures initial { OnOk result (AreProper A.eq A.rules slots.items
+        → StaysProper A.eq A.rules accounts.old accounts.new) }
 {
-    let mut ops = Vec::with_capacity(alloc, keys.len().saturating_add(1))?;
+    let mut writes = Vec::with_capacity(alloc, keys.len())?;
     slots.reverse();
     for key in keys {
-        write_found(accounts, &mut ops, *key, slots.pop())?;
+        write_found(accounts, &mut writes, *key, slots.pop())?;
     }
-    Ok(ops)
+    Ok(writes)
 }

@@ -1,6 +1,6 @@
 //! Logs that grow while they are followed.
 
-use super::vectors::{RISEN_ONE, RISEN_THREE, ROOT_FOUR, ROOT_PAID};
+use super::vectors::{RISEN_ONE, RISEN_THREE, ROOT_FOUR, ROOT_NINE};
 use super::{Told, bytes_of, digest_of, followed_on, log_of, target, value_of};
 use crate::Noted;
 use ledger_log::{AnyOp, Target};
@@ -11,7 +11,7 @@ use std::thread::Threads;
 use sync_client::{Limits, ListTargets, Targets};
 use sync_server::MemoryLink;
 
-/// The operations of a log of four accounts, and of a payment of 1 from the first to the second.
+/// The operations of a log of four accounts, two changes of them, and a commit that keeps the floor.
 fn nine() -> [AnyOp; 9] {
     [
         AnyOp::CommitFloor(None, Location::ZERO),
@@ -55,7 +55,7 @@ fn risen<R: RandomSource + Threads + Sync + AllocGlobal>(
     frames: &str,
 ) -> Option<(Told, bool)> {
     let alloc = rt.alloc();
-    let answers = [None, target(ROOT_PAID, 0, 9)];
+    let answers = [None, target(ROOT_NINE, 0, 9)];
     let limits = Limits::new(2, outstanding)?;
     let (told, sent, _named) = followed_by(rt, &limits, &answers, &[], Vec::new(alloc))?;
     Some((told, sent == bytes_of(alloc, frames)?))
@@ -63,7 +63,7 @@ fn risen<R: RandomSource + Threads + Sync + AllocGlobal>(
 
 /// The report of all nine.
 fn report() -> Option<Told> {
-    Some(Told::Report(9, 4, 9, digest_of(ROOT_PAID)?))
+    Some(Told::Report(9, 4, 9, digest_of(ROOT_NINE)?))
 }
 
 #[test]
@@ -84,7 +84,7 @@ fn mixed<R: RandomSource + Threads + Sync + AllocGlobal>(
     for _ in 0..1500 {
         cuts.push(1).ok()?;
     }
-    let all = target(ROOT_PAID, 0, 9);
+    let all = target(ROOT_NINE, 0, 9);
     let answers = [[all, None], [None, all]];
     let answers = answers.get(before)?;
     Some(followed_by(rt, &Limits::new(2, 3)?, answers, order, cuts)?.0)

@@ -43,9 +43,9 @@ fn paid<R: RandomSource + Threads + Sync + AllocGlobal, L: Link>(
     Some(followed(rt, &target, &limits, &blocks, link))
 }
 
-/// The report of all six operations and the payment.
+/// The report of all six operations and the payment: two changes, the two other accounts, and a commit.
 fn report() -> Option<Told> {
-    Some(Told::Report(6, 4, 9, digest_of(ROOT_PAID)?))
+    Some(Told::Report(6, 4, 11, digest_of(ROOT_PAID)?))
 }
 
 /// What a link says that answers in this order and in pieces of these lengths, and fails these calls.

@@ -22,7 +22,7 @@ fn key(number: u64) -> Digest {
 }
 
 /// The log that deletes so many keys, and has a commit behind that.
-pub fn deleting(alloc: Global, count: u64) -> Option<Log<AnyFamily, Sha256Hasher>> {
+fn deleting(alloc: Global, count: u64) -> Option<Log<AnyFamily, Sha256Hasher>> {
     let mut ops = Vec::new(alloc);
     for number in 0..count {
         ops.push(AnyOp::Delete(key(number))).ok()?;

@@ -6,7 +6,23 @@ pub(super) const ROOT_FOUR: &str =
 
 /// Its root after a payment of 1 from the first account to the second.
 pub(super) const ROOT_PAID: &str =
+    "004e0db3db3546ce67b4525190cd7bcedbe1a783e3f084ab2ca48a17c888916b";
+
+/// Its root after the same changes and a commit that keeps the floor.
+pub(super) const ROOT_NINE: &str =
     "bd2fa25c9ba83324641f294c30f7b35851c262b3a0862ea4177f9222cc73856a";
+
+/// The root of a log of three accounts after the third paid a new one.
+pub(super) const ROOT_TWO_MOVED: &str =
+    "7abecf630fd3b259d3bc976b4c525a1cefe24bc966c996051803778cbecd92b5";
+
+/// The root of a log of four accounts after the last one paid itself.
+pub(super) const ROOT_ONE_MOVED: &str =
+    "b089b81de27a8b55ba3380873d8128633fb67979e6be90e08f97555466f9c75f";
+
+/// The root of a log of one account after an empty block.
+pub(super) const ROOT_NONE_MOVED: &str =
+    "2220a0f92452e58352c0103aa9a41b04273a162f6c8967541e9f6fd8f8a3b493";
 
 /// The root of the log of twelve commits.
 pub(super) const ROOT_TWELVE: &str =
@@ -38,7 +54,7 @@ pub(super) const ROOT_BEFORE: &str =
 
 /// Its root after one more commit.
 pub(super) const ROOT_END: &str =
-    "a769d09667717c2de059a38aac76b9bbdbe07ebe078cedec711550cec7b32f20";
+    "2bdcde7c2165791c2c3229d389b012bea9b2b328c71e1bceca68f2afab25e10f";
 
 /// The framed answer 1 of the log of twelve, from 5 to 8.
 pub(super) const FIRST: &str =
@@ -75,11 +91,3 @@ pub(super) const RISEN_ONE: &str =
 /// The asks three at a time.
 pub(super) const RISEN_THREE: &str =
     "140000000000000000010600000000000000000201140000000000000000020602000000000000000200140000000000000000030604000000000000000200140000000000000000040906000000000000000200140000000000000000050908000000000000000100";
-
-/// What the leaf of an account at place 1 is hashed from.
-pub(super) const HONEST: &str =
-    "0000000000000000010000000000000000000000000000000000000000000000000000000000000000000101010101010101010101010101010101010101010101010101010101010101";
-
-/// What another one is, whose bytes have the same sum.
-pub(super) const FORGED: &str =
-    "0000000000000000010000000000000000000000000000000000000000000000000000000000000000000200010101010101010101010101010101010101010101010101010101010101";

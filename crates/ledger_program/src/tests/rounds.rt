@@ -14,7 +14,7 @@ fn rounds_take_what_settles(rt: HostRuntime) -> Result<(), Fail> {
     assert_eq!(rt; status, 0);
     assert_eq!(rt;
         printed.as_str(),
-        "synced 0 3\nblock 0 rounds 10 01\naccount alice 0 2\naccount bob 6 0\naccount dave 4 0\nsize 7\nroot 05e727136dd26aad07c987d126cb2035d9f034d6e09da4543043ebe0442c1ab2\n"
+        "synced 0 3\nblock 0 rounds 10 01\naccount alice 0 2\naccount bob 6 0\naccount dave 4 0\nsize 7\nroot eb8622b00402432c0c37846a3ce22d22ff2ee6ad92c37573af2a4882719f3ce5\n"
     );
     Ok(())
 }
@@ -28,7 +28,7 @@ fn a_round_may_have_no_candidates(rt: HostRuntime) -> Result<(), Fail> {
     assert_eq!(rt; status, 0);
     assert_eq!(rt;
         printed.as_str(),
-        "synced 0 3\nblock 0 rounds 1 - 1\naccount alice 4 1\naccount bob 6 1\nsize 6\nroot ee313bddb44639c036c55a47a5d5bef3e5d25508829c1ca531ca4c3f20b1c844\n"
+        "synced 0 3\nblock 0 rounds 1 - 1\naccount alice 4 1\naccount bob 6 1\nsize 6\nroot 4fabcbdd3e5c59f28e1b5a46af040ec63fb99f0e48c0425a15f6f9aa7fad0a37\n"
     );
     Ok(())
 }
@@ -44,7 +44,7 @@ fn an_empty_block_appends_a_commit(rt: HostRuntime) -> Result<(), Fail> {
         let mut want = String::from_str(rt.alloc(), "synced 0 3\n")?;
         want.push_str(line)?;
         want.push_str(
-            "account alice 10 0\nsize 4\nroot 83f3d0d08be176c983bc02b7d61734cab1133ed832fb5025faeca1d86d6aa342\n",
+            "account alice 10 0\nsize 4\nroot d75b881b516ac31c9892882d07f7ca0e933d057ff7a4687d89f226df5fb4e1d7\n",
         )?;
         let mut printed = String::new(rt.alloc());
         let status = local(&rt, job.as_str(), &[], &[], &mut printed)?;
@@ -100,7 +100,7 @@ fn ring_job(alloc: Global) -> Result<String, AllocError> {
 }
 
 const RING_REPORT: &str =
-    "synced 0 22\nblock 0 body\nblock 1 rounds 1111111111111111111111111 1111111111111111111111111\nblock 2 body\naccount a00 993 11\naccount a01 994 11\naccount a02 994 11\naccount a03 994 11\naccount a04 994 11\naccount a05 994 11\naccount a06 994 11\naccount a07 994 11\naccount a08 994 11\naccount a09 994 11\naccount a10 997 9\naccount a11 996 9\naccount a12 996 9\naccount a13 996 9\naccount a14 996 9\naccount a15 996 9\naccount a16 996 9\naccount a17 996 9\naccount a18 996 9\naccount a19 996 9\naccount pool 100 0\nsize 86\nroot 8f97fccdb8bcabff953bc1dc7378a390a8f3011a0f813ba39d176d9070cdf7b0\n";
+    "synced 0 22\nblock 0 body\nblock 1 rounds 1111111111111111111111111 1111111111111111111111111\nblock 2 body\naccount a00 993 11\naccount a01 994 11\naccount a02 994 11\naccount a03 994 11\naccount a04 994 11\naccount a05 994 11\naccount a06 994 11\naccount a07 994 11\naccount a08 994 11\naccount a09 994 11\naccount a10 997 9\naccount a11 996 9\naccount a12 996 9\naccount a13 996 9\naccount a14 996 9\naccount a15 996 9\naccount a16 996 9\naccount a17 996 9\naccount a18 996 9\naccount a19 996 9\naccount pool 100 0\nsize 86\nroot 6d7fec73a40ce73b58988d049a3f1c5ec5308dc7c9e3229e9a09f348990ca804\n";
 
 #[test]
 fn a_ring_of_payments_ends_as_stated(rt: HostRuntime) -> Result<(), Fail> {

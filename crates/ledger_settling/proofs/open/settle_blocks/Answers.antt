@@ -2,7 +2,7 @@ use Rattle.std.proofs.Common.{◌++◌, ◌∷◌, [], take, refl, sym, ap, subs
 use Rattle.std.proofs.lemmas.List.{take_all, take_more}
 use Rattle.std.proofs.lemmas.Option.{slice_get_read}
 use Rattle.std.proofs.lemmas.Result.{err_from_is_err_and}
-use Rattle.ledger_settling.specs.Blocks.{meaning, RunsTo}
+use Rattle.ledger_settling.specs.Blocks.{meaning, batch_of, grown, RunsTo}
 use Rattle.ledger_settling.proofs.RunLemmas.{RunsTo-push, run_fails}
 use Rattle.ledger_settling.proofs.open.settle_blocks.Goals as goal
 
@@ -18,12 +18,16 @@ loop-place-preserved g c =
     let ops = c.args.log.now.ops in
     let vs = c.loop-place.verdicts.items in
     let v = c.in_ok-verdict.verdict in
-    let pushed = RunsTo-push m (take i blocks) vs ops old b v c.loop-place.invariant.runs c.in_ok-verdict.ensures.settles in
+    let start = c.args.target.now.start in
+    let front = c.loop-place.invariant.front ∙ c.requires.front in
+    let grew = ap (λ l. l.ops) grows ∙ ap (λ n. grown m n old (batch_of b v)) front in
+    let pushed = RunsTo-push m start (take i blocks) vs ops old b v c.loop-place.invariant.runs c.in_ok-verdict.ensures.settles in
     record {
-      runs = subst (λ bs. RunsTo m ops bs c.push.new.self.items c.settle_block.new.log.ops) (sym more)
-          (subst (λ ws. RunsTo m ops (take i blocks ++ b ∷ []) ws c.settle_block.new.log.ops) (sym c.in_ok-push.ensures.items)
-          (subst (λ all. RunsTo m ops (take i blocks ++ b ∷ []) (vs ++ v ∷ []) all) (sym (ap (λ l. l.ops) grows)) pushed));
+      runs = subst (λ bs. RunsTo m start ops bs c.push.new.self.items c.settle_block.new.log.ops) (sym more)
+          (subst (λ ws. RunsTo m start ops (take i blocks ++ b ∷ []) ws c.settle_block.new.log.ops) (sym c.in_ok-push.ensures.items)
+          (subst (λ all. RunsTo m start ops (take i blocks ++ b ∷ []) (vs ++ v ∷ []) all) (sym grew) pushed));
       accounts = c.in_ok-verdict.ensures.accounts;
+      initial = λ h. c.in_ok-verdict.ensures.initial (c.loop-place.invariant.initial h);
       front = ap (λ l. l.front) grows ∙ c.loop-place.invariant.front;
       nodes = ap (λ l. l.pinned) grows ∙ c.loop-place.invariant.nodes;
     }
@@ -41,4 +45,4 @@ returns-in_err-verdict-clause-fails g c =
 pub returns-clause-runs : goal.returns-clause-runs
 returns-clause-runs g c =
     let m = meaning g.T.Transfer.changes_of g.A.PartialEq.eq g.A.Account.rules g.A.AccountValue.values in
-    subst (λ bs. RunsTo m c.args.log.now.ops bs c.loop-place.verdicts.items c.loop-place.log.ops) (take_all c.loop-place.place c.args.blocks.now c.loop-place-test.false) c.loop-place.invariant.runs
+    subst (λ bs. RunsTo m c.args.target.now.start c.args.log.now.ops bs c.loop-place.verdicts.items c.loop-place.log.ops) (take_all c.loop-place.place c.args.blocks.now c.loop-place-test.false) c.loop-place.invariant.runs

@@ -31,6 +31,7 @@ loop-round-preserved g c =
     let all_verdicts : joined c.push.new.self.items ≡ joined vs ++ v = ap joined pushed ∙ joined_push vs v in
     let step = chosen_more same account f accounts start c.loop-round.selection.1 end (joined front) x (joined vs) v even c.loop-round.invariant.chosen c.in_ok-chosen.ensures.chosen in
     record {
+      staged = c.in_ok-staged.ensures;
       opened = c.in_ok-chosen.ensures.opened;
       cut = ap (map length) pushed ∙ map-append length vs (v ∷ []) ∙ ap (λ us. us ++ length v ∷ []) c.loop-round.invariant.cut ∙ ap (λ n. map length front ++ n ∷ []) c.in_ok-chosen.ensures.all
           ∙ sym (ap (map length) more ∙ map-append length front (x ∷ []));

@@ -3,10 +3,12 @@ use Rattle.std.specs.List.{flat_map}
 use Rattle.ledger_transfers.specs.Greedy.{taken}
 use Rattle.ledger_settling.specs.Blocks.{joined}
 use Rattle.ledger_settling.specs.Rounds.{AreOpened, AreChosen}
+use Rattle.ledger_settling.specs.Slots.{fresh_batch}
 use Rattle.ledger_settling.proofs.rounds.choose_rounds.Given as goal
 
 abbrev pub invariant-loop-round : goal.invariant-loop-round
 invariant-loop-round g l = record {
+  staged : l.staged.batch ≡ fresh_batch l.log;
   opened : AreOpened g.A.PartialEq.eq l.accounts l.selection.0 l.selection.1;
   cut : map length l.verdicts.items ≡ map length (take l.round-index l.rounds);
   many : length (joined l.verdicts.items) ≡ length (joined (take l.round-index l.rounds));
