@@ -7,7 +7,7 @@ use Rattle.std.proofs.lemmas.Bool.{eqb-true, eq-eqb}
 use Rattle.std.proofs.lemmas.List.Elements.{All-nil, All-cons}
 use Rattle.std.proofs.lemmas.List.Sorted.{IsPermutation-append_comm}
 use Rattle.ledger_transfers.specs.Accounts.{balance_rules, sequenced_rules}
-use Rattle.ledger_transfers.specs.Batches.{AgreesWithPlans, BatchSettles, SameSlots, opened_by}
+use Rattle.ledger_transfers.specs.Batches.{AgreesWithPlans, BatchFails, BatchSettles, SameSlots, opened_by}
 use Rattle.ledger_transfers.specs.Greedy.{IsChosen}
 use Rattle.ledger_transfers.specs.Orders.{EndsAlike, HasNoEffects, OpensByKey}
 use Rattle.ledger_transfers.specs.Registering.{AreSettled, fresh, touched}
@@ -17,13 +17,14 @@ use Rattle.ledger_transfers.specs.Touches.{IsPlanOf, touches}
 use Rattle.ledger_transfers.specs.declared.balance.Balance.{Balance}
 use Rattle.ledger_transfers.specs.declared.balance.NoEffect.{NoEffect}
 use Rattle.ledger_transfers.specs.declared.change.Change.{Change}
+use Rattle.ledger_transfers.specs.declared.fault.PlanFault.{PlanFault}
 use Rattle.ledger_transfers.specs.declared.held.Held.{Held}
 use Rattle.ledger_transfers.specs.declared.sequenced.Sequenced.{Sequenced}
 use Rattle.ledger_transfers.specs.declared.slot.Slot.{Slot}
 use Rattle.ledger_transfers.specs.declared.totals.Totals.{Totals}
 use Rattle.ledger_transfers.proofs.TakenLemmas.{opened_alike}
 use Rattle.transfer_cases.specs.Payments.{payment_changes, same_account}
-use Rattle.transfer_cases.specs.Promised.{AreRight, ArePlanned, StandsOver, candidates, first, opening, paid, two_keys}
+use Rattle.transfer_cases.specs.Promised.{AreRight, ArePlanned, FailsBoth, SettlesFirst, StandsOver, candidates, first, opening, paid, second, two_keys}
 use Rattle.transfer_cases.specs.declared.payment.Payment.{Payment}
 
 -- ---- verdicts
@@ -59,6 +60,12 @@ same_slots keys entries slots theirs k reads agrees planned =
     let settled = subst (λ (ks : List ℕ). AreSettled nat_eq same_account sequenced_rules ks opens firsts theirs) (sym planned.keys_are) planned.slots_are in
     let same = agrees.slots_are planned.plan opens theirs planned.is_plan (λ q touched. subst (λ (o : ℕ → Sequenced). same_account (o q) (opens q) ≡ true) (sym one) (alike_self (opens q))) settled in
     subst (λ (ks : List ℕ). SameSlots nat_eq same_account two_keys slots ks theirs) planned.keys_are (subst (λ (ks : List ℕ). SameSlots nat_eq same_account ks slots (keys_of planned.plan) theirs) k same)
+
+pub settles_first : (keys : List ℕ) (entries : List (ℕ × Held Sequenced)) (slots : List (Slot Sequenced)) → keys ≡ two_keys → AreReadBy nat_eq opening entries
+    → AreSettled nat_eq same_account sequenced_rules keys (opened_at nat_eq same_account sequenced_rules entries) firsts slots → SettlesFirst slots
+settles_first keys entries slots k reads settled =
+    let at_keys = subst (λ (ks : List ℕ). AreSettled nat_eq same_account sequenced_rules ks (opened_at nat_eq same_account sequenced_rules entries) firsts slots) k settled in
+    subst (λ (o : ℕ → Sequenced). AreSettled nat_eq same_account sequenced_rules two_keys o firsts slots) (opened_alike nat_eq same_account sequenced_rules opening entries reads) at_keys
 
 -- ---- a plan
 
@@ -99,6 +106,16 @@ planned_so plan p reads slots e r is order batch =
       keys_are = keys;
       slots_are = subst (λ (o : ℕ → Sequenced). AreSettled nat_eq same_account sequenced_rules two_keys o firsts slots) (λ i k. opens_so k i) at_reads;
     }
+
+pub fails_so : (plan : List (ℕ × Totals ℕ)) (p q : Payment) (reads : List (Option Sequenced)) (fault : PlanFault ℕ) → p ≡ first → q ≡ second → reads ≡ two_reads → keys_of plan ≡ touched nat_eq [] (touches payment_changes (p ∷ q ∷ []))
+    → BatchFails nat_eq sequenced_rules (opened_by nat_eq sequenced_rules (keys_of plan) reads) (touches payment_changes (p ∷ q ∷ [])) fault → FailsBoth fault
+fails_so plan p q reads fault e f r order fails =
+    let ps : p ∷ q ∷ [] ≡ candidates = ap (λ (x : Payment). x ∷ q ∷ []) e ∙ ap (λ (x : Payment). first ∷ x ∷ []) f in
+    let keys : keys_of plan ≡ two_keys = order ∙ ap (λ (all : List Payment). touched nat_eq [] (touches payment_changes all)) ps in
+    let at_both = subst (λ (all : List Payment). BatchFails nat_eq sequenced_rules (opened_by nat_eq sequenced_rules (keys_of plan) reads) (touches payment_changes all) fault) ps fails in
+    let at_keys = subst (λ (ks : List ℕ). BatchFails nat_eq sequenced_rules (opened_by nat_eq sequenced_rules ks reads) (touches payment_changes candidates) fault) keys at_both in
+    let at_reads = subst (λ (rs : List (Option Sequenced)). BatchFails nat_eq sequenced_rules (opened_by nat_eq sequenced_rules two_keys rs) (touches payment_changes candidates) fault) r at_keys in
+    subst (λ (o : ℕ → Sequenced). BatchFails nat_eq sequenced_rules o (touches payment_changes candidates) fault) (λ i k. opens_so k i) at_reads
 
 -- ---- orders
 

@@ -2,11 +2,13 @@
 use Rattle.std.specs.Prelude.{◌≡◌, ℕ, Bool, nat_eq, List, [], ◌∷◌, None, Some}
 use Rattle.std.specs.Map.{keys_of}
 use Rattle.ledger_transfers.specs.Accounts.{sequenced_rules}
+use Rattle.ledger_transfers.specs.Batches.{BatchFails}
 use Rattle.ledger_transfers.specs.Greedy.{AreGreedy, taken}
 use Rattle.ledger_transfers.specs.Registering.{AreSettled, fresh}
 use Rattle.ledger_transfers.specs.Selecting.{AreVerdicts, SettledBy, StandsFor, opened_at, taken_after}
 use Rattle.ledger_transfers.specs.Touches.{IsPlanOf, touches}
 use Rattle.ledger_transfers.specs.declared.change.Change.{Change}
+use Rattle.ledger_transfers.specs.declared.fault.PlanFault.{PlanFault}
 use Rattle.ledger_transfers.specs.declared.held.Held.{Held}
 use Rattle.ledger_transfers.specs.declared.sequenced.Sequenced.{Sequenced}
 use Rattle.ledger_transfers.specs.declared.slot.Slot.{Slot}
@@ -53,9 +55,17 @@ pub record AreRight (entries : List (ℕ × Held Sequenced)) (payments : List Pa
   pub greedy : AreGreedy (λ batch. SettlesThere (touches payment_changes batch)) [] payments verdicts
   pub stands_taken : StandsOver entries (touches payment_changes (taken payments verdicts))
 
+-- the slots settle the first payment over the two accounts
+abbrev pub SettlesFirst : List (Slot Sequenced) → Type 0
+SettlesFirst slots = AreSettled nat_eq same_account sequenced_rules two_keys (opened_at nat_eq same_account sequenced_rules opening) (touches payment_changes (first ∷ [])) slots
+
 -- the slots are those of a plan of the first payment, over the two accounts
 pub record ArePlanned (slots : List (Slot Sequenced)) : Type 0 where
   pub plan : List (ℕ × Totals ℕ)
   pub is_plan : IsPlanOf nat_eq (touches payment_changes (first ∷ [])) plan
   pub keys_are : keys_of plan ≡ two_keys
   pub slots_are : AreSettled nat_eq same_account sequenced_rules two_keys (opened_at nat_eq same_account sequenced_rules opening) (touches payment_changes (first ∷ [])) slots
+
+-- both payments aren't settled over the two accounts, by the first offence of some key, or memory was wanting
+abbrev pub FailsBoth : PlanFault ℕ → Type 0
+FailsBoth fault = BatchFails nat_eq sequenced_rules (opened_at nat_eq same_account sequenced_rules opening) (touches payment_changes candidates) fault

@@ -17,7 +17,7 @@ pub use anew::verdicts_anew;
 pub use cases::{Played, Unmet, body, play};
 pub use five::Five;
 pub use payment::Payment;
-pub use promised::{Both, both_ways, either_order, never_funded};
+pub use promised::{Both, both_ways, either_order, never_funded, unaffordable};
 pub use stated::Stated;
 
 #[cfg(test)]

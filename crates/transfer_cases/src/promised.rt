@@ -1,5 +1,5 @@
 //! Promises of settling that stand under a premise, each kept once at payments of its own.
-ghost use Rattle.std.specs.Prelude.{◌≡◌, ◌∷◌, ◌++◌, ℕ, List as Items, [], true, false, IfOk, OnOk, IsTrue, Some, None, nat_eq, take, length};
+ghost use Rattle.std.specs.Prelude.{◌≡◌, ◌∷◌, ◌++◌, ℕ, List as Items, [], true, false, IfOk, IfErr, OnOk, IsTrue, Some, None, nat_eq, take, length};
 ghost use Rattle.ledger_transfers.specs.Accounts.{balance_rules, sequenced_rules};
 ghost use Rattle.ledger_transfers.specs.Batches.{SameSlots};
 ghost use Rattle.ledger_transfers.specs.Orders.{EndsAlike};
@@ -10,7 +10,7 @@ ghost use Rattle.ledger_transfers.specs.declared.balance.Balance.{Balance as Bal
 ghost use Rattle.ledger_transfers.specs.declared.sequenced.Sequenced.{Sequenced as SequencedOf};
 ghost use Rattle.ledger_transfers.specs.declared.slot.Slot.{Slot as SlotOf};
 ghost use Rattle.transfer_cases.specs.Payments.{payment_changes, same_account};
-ghost use Rattle.transfer_cases.specs.Promised.{AreRight, ArePlanned, StandsOver, candidates, first, opening, paid, second, two_keys};
+ghost use Rattle.transfer_cases.specs.Promised.{AreRight, ArePlanned, FailsBoth, SettlesFirst, StandsOver, candidates, first, opening, paid, second, two_keys};
 ghost use Rattle.transfer_cases.specs.declared.payment.Payment.{Payment as PaymentOf};
 
 use crate::cases::Unmet;
@@ -19,7 +19,7 @@ use crate::stated::Stated;
 use ledger_codec::{List, OutOfMemory};
 use ledger_strategy::Sequential;
 use ledger_transfers::{
-    Balance, Plan, Selection, Sequenced, Slot, Stopped, has_no_effects, overdraws,
+    Balance, Plan, PlanFault, Selection, Sequenced, Slot, Stopped, has_no_effects, overdraws,
 };
 use std::alloc::Global;
 use std::thread::Threads;
@@ -133,7 +133,7 @@ fn planned<R: Threads + Sync>(rt: &R, alloc: Global) -> Result<Vec<Slot<Sequence
     Ok(plan.settle(rt, alloc, &reads, &Sequential)?)
 }
 
-/// The slots of a selection that took the first payment alone: each plan of it has the same.
+/// The slots of a selection that took the first payment alone: they settle it, and each plan of it has the same.
 fn slots_of<R: Threads + Sync>(
     rt: &R,
     alloc: Global,
@@ -142,8 +142,9 @@ fn slots_of<R: Threads + Sync>(
     requires keys { selection.0 ≡ two_keys }
     requires reads { AreReadBy nat_eq opening selection.1 }
     requires stands { StandsOver selection.1 (touches payment_changes (first ∷ [])) }
-    ensures { IfOk result (λ slots. (theirs : Items (SlotOf SequencedOf)) → ArePlanned theirs
+    ensures same { IfOk result (λ slots. (theirs : Items (SlotOf SequencedOf)) → ArePlanned theirs
         → SameSlots nat_eq same_account two_keys slots.items two_keys theirs) }
+    ensures settled { IfOk result (λ slots. SettlesFirst slots.items) }
 {
     Ok(selection.settle(rt, alloc, &Sequential)?)
 }
@@ -178,4 +179,23 @@ pub fn both_ways<R: Threads + Sync>(rt: &R, alloc: Global) -> Result<Both, Unmet
     let chosen = slots_of(rt, alloc, selection)?;
     let planned = planned(rt, alloc)?;
     Ok(Both { chosen, planned })
+}
+
+/// The slots of both payments, by a plan of them over the two accounts. They aren't settled: an offence of some key is
+/// named, or memory is wanting.
+pub fn unaffordable<R: Threads + Sync>(
+    rt: &R,
+    alloc: Global,
+) -> Result<Result<Vec<Slot<Sequenced>>, PlanFault<u8>>, Unmet>
+    ensures { IfOk result (λ settled. IfErr settled FailsBoth) }
+{
+    let plan: Plan<u8, Sequenced> = Plan::with_seed(
+        rt,
+        alloc,
+        &[first(), second()],
+        9,
+        &Sequential,
+    )?;
+    let reads = reads(alloc)?;
+    Ok(plan.settle(rt, alloc, &reads, &Sequential))
 }

@@ -385,5 +385,12 @@ fn promises_are_kept(rt: HostRuntime) -> Result<(), Fail> {
     ];
     assert_eq!(rt; both.chosen.as_slice(), want.as_slice());
     assert_eq!(rt; both.planned.as_slice(), want.as_slice());
+    let settled = unaffordable(&rt, rt.alloc())?;
+    assert!(rt;
+        matches!(
+            settled,
+            Err(PlanFault::Rejected(Rejection::Insufficient(1)))
+        )
+    );
     Ok(())
 }
