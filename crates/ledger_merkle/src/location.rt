@@ -7,7 +7,7 @@ use std::marker::Model;
 pub const MAX_LEAVES: u64 = 0x4000_0000_0000_0000;
 
 /// A place in a log, from 0, or a number of leaves: at most [`MAX_LEAVES`].
-#[derive(Clone, Copy, PartialEq, Eq, Debug)]
+#[derive(Clone, Copy, PartialEq, Eq, PartialOrd, Ord, Debug)]
 pub struct Location {
     value: u64,
 }
