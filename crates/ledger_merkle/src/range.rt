@@ -5,15 +5,19 @@ ghost use Rattle.ledger_merkle.specs.Range.{subtree, subtree_needs, needed, rang
 use crate::hashed::{hash_item, hash_node};
 use crate::{Hasher, Leaf, Location, Proof};
 use ledger_codec::Digest;
+use thiserror::Error;
 
 /// Why a proof of a range doesn't hold.
-#[derive(Debug, Drop)]
+#[derive(Debug, Drop, Error)]
 pub enum RangeFault {
     /// The proof is for another size, or has inactive peaks.
+    #[error("proof for {} leaves with {inactive} inactive peaks", .found.get())]
     WrongSize { found: Location, inactive: u64 },
     /// The number of digests is wrong.
+    #[error("proof without the {needed} digests that its range needs")]
     Count { needed: usize },
     /// The proof gives another root.
+    #[error("proof of another root")]
     Root { found: Digest },
 }
 
