@@ -5,3 +5,7 @@ pub mod Trackers
 pub mod Trees
 mod Refusals
 pub mod Sessions
+mod Parts
+mod Pruned
+mod Raises
+mod Texts

@@ -1,3 +1,4 @@
 pub mod Cases
 pub mod Served
 pub mod Sessions
+pub mod Texts

@@ -4,7 +4,10 @@
 mod bytes;
 mod compact;
 mod links;
+mod logs;
+mod parts;
 mod served;
 mod sessions;
+mod texts;
 mod trackers;
 mod trees;

@@ -8,10 +8,13 @@ ghost use Rattle.ledger_log.specs.Spellings.{any_at};
 ghost use Rattle.ledger_log.specs.declared.any.AnyOp.{AnyOp};
 ghost use Rattle.ledger_log.specs.declared.any.AnyOp.TheVariants.{CommitFloor};
 
-use ledger_codec::{CodecError, MemorySink, OutOfMemory, Sink, SinkError, decode, encode, frame};
+use ledger_codec::{
+    CodecError, MemorySink, OutOfMemory, Sink, SinkError, Writing, decode, encode, frame,
+};
 use ledger_log::AnyOp;
 use ledger_merkle::Location;
 use std::alloc::Global;
+use std::io::Write;
 
 /// The frame of one byte: a reader cuts off that byte, also where another one follows.
 fn framed(alloc: Global) -> Result<Vec<u8>, OutOfMemory>
@@ -42,6 +45,13 @@ fn written(alloc: Global) -> Result<usize, SinkError>
     sink.write(&[1, 2])
 }
 
+/// How many of two bytes a writer takes: no memory is wanting, as the sink over it takes none.
+fn taken<W: Write>(sink: &mut Writing<W>) -> Result<usize, SinkError>
+    ensures { IsErrOf result Starved → ⊥ }
+{
+    sink.write(&[1, 2])
+}
+
 #[test]
 fn bytes_are_read_as_they_were_written(rt: HostRuntime) {
     let alloc = rt.alloc();
@@ -49,4 +59,6 @@ fn bytes_are_read_as_they_were_written(rt: HostRuntime) {
     assert!(rt; spelled(alloc).is_ok_and(|bytes| bytes.as_slice() == [2, 0, 0].as_slice()));
     assert!(rt; read(alloc, &[2, 0, 0]).is_ok());
     assert!(rt; written(alloc).is_ok_and(|count| count == 2));
+    let mut sink = Writing::new(Vec::<u8>::new(alloc));
+    assert!(rt; taken(&mut sink).is_ok_and(|count| count == 2));
 }

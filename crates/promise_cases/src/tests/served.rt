@@ -16,7 +16,10 @@ use sync_net::{ErrorCode, Generator, Machine};
 use sync_server::MemoryLink;
 
 /// A link that serves the log, and whose calls don't fail.
-fn link_to(alloc: Global, log: Log<KeylessFamily, Sha256Hasher>) -> MemoryLink<KeylessFamily>
+pub(super) fn link_to(
+    alloc: Global,
+    log: Log<KeylessFamily, Sha256Hasher>,
+) -> MemoryLink<KeylessFamily>
     ensures steady { result.calls.failing ≡ [] }
     ensures serves { OwesNothing (data_of keyless_spelling keyless_floor log)
         (service_of result.lost (service_told keyless_spelling keyless_floor result)) }
