@@ -78,8 +78,13 @@ fn a_pruned_log_keeps_its_root(rt: HostRuntime) {
     assert_eq!(rt; is_kept(rt.alloc()), Some(true));
 }
 
+/// The floor and the count of operations of that batch.
+fn raised_floor(alloc: Global) -> Option<(u64, usize)> {
+    let batch = raised(alloc)?.ok()?;
+    Some((batch.floor.get(), batch.ops.len()))
+}
+
 #[test]
 fn a_raised_floor_stays_sound(rt: HostRuntime) {
-    let batch = raised(rt.alloc());
-    assert!(rt; matches!(batch, Some(Ok(batch)) if batch.floor.get() == 1 && batch.ops.len() == 2));
+    assert_eq!(rt; raised_floor(rt.alloc()), Some((1, 2)));
 }
