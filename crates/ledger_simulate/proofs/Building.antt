@@ -5,7 +5,7 @@ use Rattle.std.specs.List.{list_any}
 use Rattle.simulate_parts.specs.declared.peer.Peer.{Peer}
 use Rattle.simulate_parts.specs.declared.schedule.Crash.{Crash}
 use Rattle.simulate_parts.specs.declared.schedule.Crash.TheVariants.{Random, DelayRound, ProcessedHeight, Schedule}
-use Rattle.ledger_simulate.specs.Plans.{Runs, delays, fits_beside, strikes_at_random}
+use Rattle.ledger_simulate.specs.Plans.{Runs, delays, fits_beside, crashes_at_random}
 
 -- what one adds to a count
 abbrev mark : Bool → ℕ
@@ -49,7 +49,7 @@ pub runs_more : (ps : List Peer) (cs new : List Crash) (c : Crash) → IsTrue (f
 runs_more ps cs new c fits grown runs = subst (Runs ps) (sym grown) (more c fits)
   where
     more : (d : Crash) → IsTrue (fits_beside cs d) → Runs ps (cs ++ d ∷ [])
-    more (DelayRound participants round) h = (runs.0, first_counted delays cs (DelayRound participants round) refl h, same_counted strikes_at_random cs (DelayRound participants round) refl runs.2)
-    more (Random frequency downtime count) h = (runs.0, same_counted delays cs (Random frequency downtime count) refl runs.1, first_counted strikes_at_random cs (Random frequency downtime count) refl h)
-    more (ProcessedHeight participant first last downtime) h = (runs.0, same_counted delays cs (ProcessedHeight participant first last downtime) refl runs.1, same_counted strikes_at_random cs (ProcessedHeight participant first last downtime) refl runs.2)
-    more (Schedule events) h = (runs.0, same_counted delays cs (Schedule events) refl runs.1, same_counted strikes_at_random cs (Schedule events) refl runs.2)
+    more (DelayRound participants round) h = (runs.0, first_counted delays cs (DelayRound participants round) refl h, same_counted crashes_at_random cs (DelayRound participants round) refl runs.2)
+    more (Random frequency downtime count) h = (runs.0, same_counted delays cs (Random frequency downtime count) refl runs.1, first_counted crashes_at_random cs (Random frequency downtime count) refl h)
+    more (ProcessedHeight participant first last downtime) h = (runs.0, same_counted delays cs (ProcessedHeight participant first last downtime) refl runs.1, same_counted crashes_at_random cs (ProcessedHeight participant first last downtime) refl runs.2)
+    more (Schedule events) h = (runs.0, same_counted delays cs (Schedule events) refl runs.1, same_counted crashes_at_random cs (Schedule events) refl runs.2)

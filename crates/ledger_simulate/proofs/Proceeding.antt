@@ -13,7 +13,7 @@ use Rattle.ledger_simulate.specs.Meaning.{Meaning}
 use Rattle.ledger_simulate.specs.Failures.{tally_after, tally_of}
 use Rattle.ledger_simulate.specs.declared.reports.Reached.{Reached}
 use Rattle.ledger_simulate.proofs.Turning.{set_off_changes_alone}
-use Rattle.ledger_simulate.specs.Handling.{Grows, Handles, Rests, Seated, ChangesEngines, HandlesOther, Tells, Turns, birth_at, carried, number_after, count_setting_off, told_by}
+use Rattle.ledger_simulate.specs.Handling.{Grows, Handles, IsUnchanged, Seated, ChangesEngines, HandlesOther, HandlesAtEngine, StepsAndReports, birth_at, carried, number_after, count_setting_off, told_by}
 use Rattle.ledger_simulate.specs.Messages.{timers_of}
 use Rattle.ledger_simulate.specs.Queue.{AgendaView, NumberedBelow, QueueView, empty_agenda, key_cmp, queued_all}
 use Rattle.ledger_simulate.specs.Runs.{Proceeds}
@@ -35,7 +35,7 @@ pub record Leaves {D E S F P C : Type 0} (m : Meaning D E S F P C) (a b : Agenda
   pub grows : Seated m.peer_of (number_after a) u.seats.entries → Grows m.reports us vs
 
 module _ {D E S F P C : Type 0} (m : Meaning D E S F P C) (holds : List FinalizationUpdate → Bool → World D E S → Type 0) where
-  turns_leave : (o : Option Reached) (pk : Peer) (birth : ℕ) (event : StepEvent) (a b : AgendaView) (us vs : List FinalizationUpdate) (u v : World D E S) → Turns m holds o pk birth event a b us vs u v → Leaves m a b us vs u v
+  turns_leave : (o : Option Reached) (pk : Peer) (birth : ℕ) (event : StepEvent) (a b : AgendaView) (us vs : List FinalizationUpdate) (u v : World D E S) → StepsAndReports m holds o pk birth event a b us vs u v → Leaves m a b us vs u v
   turns_leave o pk birth event a b us vs u v turns =
       let gives = turns.gives in
       let changes_alone = set_off_changes_alone m holds (updates_of pk turns.out.finalized) (is_some o) (count_setting_off us (updates_of pk turns.out.finalized) o) turns.given b turns.mid v turns.set_off in
@@ -57,7 +57,7 @@ module _ {D E S F P C : Type 0} (m : Meaning D E S F P C) (holds : List Finaliza
         };
       }
 
-  rests_leave : (a b : AgendaView) (us vs : List FinalizationUpdate) (u v : World D E S) → Rests a b us vs u v → Leaves m a b us vs u v
+  rests_leave : (a b : AgendaView) (us vs : List FinalizationUpdate) (u v : World D E S) → IsUnchanged a b us vs u v → Leaves m a b us vs u v
   rests_leave a b us vs u v rests = record {
     next = ap (λ (x : AgendaView). x.next) rests.0;
     seated = λ seated.
@@ -66,14 +66,14 @@ module _ {D E S F P C : Type 0} (m : Meaning D E S F P C) (holds : List Finaliza
     grows = λ seated. grows_none m.reports us vs rests.1;
   }
 
-  tells_leave : (o : Option Reached) (pk : Peer) (event : StepEvent) (a b : AgendaView) (us vs : List FinalizationUpdate) (u v : World D E S) (birth : Option ℕ) → MatchOption birth (Rests a b us vs u v) (λ n. Turns m holds o pk n event a b us vs u v) → Leaves m a b us vs u v
+  tells_leave : (o : Option Reached) (pk : Peer) (event : StepEvent) (a b : AgendaView) (us vs : List FinalizationUpdate) (u v : World D E S) (birth : Option ℕ) → MatchOption birth (IsUnchanged a b us vs u v) (λ n. StepsAndReports m holds o pk n event a b us vs u v) → Leaves m a b us vs u v
   tells_leave o pk event a b us vs u v None rests = rests_leave a b us vs u v rests
   tells_leave o pk event a b us vs u v (Some birth) turns = turns_leave o pk birth event a b us vs u v turns
 
   -- the engine that runs took a step
-  pub tells_by : (o : Option Reached) (pk : Peer) (n : ℕ) (event : StepEvent) (a b : AgendaView) (us vs : List FinalizationUpdate) (u v : World D E S) (birth : Option ℕ) → birth ≡ Some n → Turns m holds o pk n event a b us vs u v → MatchOption birth (Rests a b us vs u v) (λ k. Turns m holds o pk k event a b us vs u v)
+  pub tells_by : (o : Option Reached) (pk : Peer) (n : ℕ) (event : StepEvent) (a b : AgendaView) (us vs : List FinalizationUpdate) (u v : World D E S) (birth : Option ℕ) → birth ≡ Some n → StepsAndReports m holds o pk n event a b us vs u v → MatchOption birth (IsUnchanged a b us vs u v) (λ k. StepsAndReports m holds o pk k event a b us vs u v)
   tells_by o pk n event a b us vs u v birth is turns =
-      subst (λ x. MatchOption x (Rests a b us vs u v) (λ k. Turns m holds o pk k event a b us vs u v)) (sym is) turns
+      subst (λ x. MatchOption x (IsUnchanged a b us vs u v) (λ k. StepsAndReports m holds o pk k event a b us vs u v)) (sym is) turns
 
   other_leave : (event : Event) (a b : AgendaView) (us vs : List FinalizationUpdate) (u v : World D E S) → HandlesOther m event a b us vs u v → Leaves m a b us vs u v
   other_leave event a b us vs u v other = record {
@@ -142,9 +142,9 @@ module _ {D E S F P C : Type 0} (m : Meaning D E S F P C) (holds : List Finaliza
       (subst (λ n. Seated m.peer_of n u.seats.entries) (ap (λ (q : QueueView). q.next) taken) seated))
 
   -- an event that tells an engine this
-  pub handles_told : {X : Type 0} (key : ℕ × ℕ) (event : Event) (t : Told) (a b : AgendaView) (us vs : List FinalizationUpdate) (u v : World D E S) (r : Result (Option Reached) X) → Some (t.pk, t.birth, t.event) ≡ told_by key event → IfOk r (λ o. Tells m holds o t.pk t.birth t.event a b us vs u v) → IfOk r (λ o. Handles m holds o key event a b us vs u v)
+  pub handles_told : {X : Type 0} (key : ℕ × ℕ) (event : Event) (t : Told) (a b : AgendaView) (us vs : List FinalizationUpdate) (u v : World D E S) (r : Result (Option Reached) X) → Some (t.pk, t.birth, t.event) ≡ told_by key event → IfOk r (λ o. HandlesAtEngine m holds o t.pk t.birth t.event a b us vs u v) → IfOk r (λ o. Handles m holds o key event a b us vs u v)
   handles_told key event t a b us vs u v r is told =
-      subst (λ x. IfOk r (λ o. MatchOption x (HandlesOther m event a b us vs u v) (λ y. Tells m holds o y.0 y.1 y.2 a b us vs u v))) is told
+      subst (λ x. IfOk r (λ o. MatchOption x (HandlesOther m event a b us vs u v) (λ y. HandlesAtEngine m holds o y.0 y.1 y.2 a b us vs u v))) is told
 
   -- an event that is for no engine
   pub handles_act : (o : Option Reached) (key : ℕ × ℕ) (event : Event) (action : Action) (a b : AgendaView) (us : List FinalizationUpdate) (u v : World D E S) → event ≡ Act action → ChangesEngines m.peer_of a b u v → tally_of v.exercise ≡ tally_after m.crashes (Act action) u → Handles m holds o key event a b us us u v

@@ -8,7 +8,7 @@ use Rattle.simulate_parts.specs.declared.engine.StateView.{StateView}
 use Rattle.simulate_parts.specs.declared.tracker.FinalizationUpdate.{FinalizationUpdate}
 use Rattle.ledger_simulate.specs.Meaning.{Meaning}
 use Rattle.ledger_simulate.specs.Answering.{MetOn}
-use Rattle.ledger_simulate.specs.Handling.{ChangesEnginesAlone, SetsOff, SetsOffEach, count_setting_off}
+use Rattle.ledger_simulate.specs.Handling.{ChangesEnginesAlone, TriggersFailures, TriggersFailuresEach, count_setting_off}
 use Rattle.ledger_simulate.specs.Plans.{target_count}
 use Rattle.ledger_simulate.specs.Queue.{AgendaView}
 use Rattle.ledger_simulate.specs.Reaching.{ExitIs, Finds}
@@ -66,11 +66,11 @@ finds_on m now one before all done rest update met w since once whole finds =
     }
 
 module _ {D E S F P C : Type 0} (m : Meaning D E S F P C) where
-  sets_off_change_alone : (P : World D E S → Type 0) (a b : AgendaView) (u v : World D E S) → SetsOff m P a b u v → ChangesEnginesAlone m.peer_of a b u v
+  sets_off_change_alone : (P : World D E S → Type 0) (a b : AgendaView) (u v : World D E S) → TriggersFailures m P a b u v → ChangesEnginesAlone m.peer_of a b u v
   sets_off_change_alone P a b u v sets_off = changes_alone_then m.peer_of a sets_off.made b u sets_off.mid v sets_off.enters sets_off.changes_alone
 
   -- a report that set failures off, by a wider fact
-  pub sets_off_on : (P Q : World D E S → Type 0) (a b : AgendaView) (u v : World D E S) (prior : Option Reached) → ((w : World D E S) → P w → Q w) → MatchOption prior (SetsOff m P a b u v) (λ q. (b ≡ a) × (v ≡ u)) → MatchOption prior (SetsOff m Q a b u v) (λ q. (b ≡ a) × (v ≡ u))
+  pub sets_off_on : (P Q : World D E S → Type 0) (a b : AgendaView) (u v : World D E S) (prior : Option Reached) → ((w : World D E S) → P w → Q w) → MatchOption prior (TriggersFailures m P a b u v) (λ q. (b ≡ a) × (v ≡ u)) → MatchOption prior (TriggersFailures m Q a b u v) (λ q. (b ≡ a) × (v ≡ u))
   sets_off_on P Q a b u v None wider sets_off = record {
     made = sets_off.made;
     mid = sets_off.mid;
@@ -88,29 +88,29 @@ module _ {D E S F P C : Type 0} (m : Meaning D E S F P C) where
 
 module _ {D E S F P C : Type 0} (m : Meaning D E S F P C) (holds : List FinalizationUpdate → Bool → World D E S → Type 0) (all : List FinalizationUpdate) where
   -- what they do to the engines
-  pub set_off_changes_alone : (met : Bool) (n : ℕ) (a b : AgendaView) (u v : World D E S) → SetsOffEach m holds all met n a b u v → ChangesEnginesAlone m.peer_of a b u v
+  pub set_off_changes_alone : (met : Bool) (n : ℕ) (a b : AgendaView) (u v : World D E S) → TriggersFailuresEach m holds all met n a b u v → ChangesEnginesAlone m.peer_of a b u v
   set_off_changes_alone met zero a b u v set_off =
       subst (λ x. ChangesEnginesAlone m.peer_of a x u v) (sym set_off.0) (subst (λ (w : World D E S). ChangesEnginesAlone m.peer_of a a u w) (sym set_off.1) (changes_alone_none m.peer_of a u))
   set_off_changes_alone met (suc n) a b u v set_off =
       changes_alone_then m.peer_of a set_off.0 b u set_off.1 v (set_off_changes_alone false n a set_off.0 u set_off.1 set_off.2) (sets_off_change_alone m (holds (take (suc n) all) met) set_off.0 b set_off.1 v set_off.3)
 
   -- one report more
-  pub set_off_step : (before done rest now_reports new_reports : List FinalizationUpdate) (prior next : Option Reached) (update : FinalizationUpdate) (a c b : AgendaView) (u w v : World D E S) → now_reports ≡ before ++ done → new_reports ≡ now_reports ++ update ∷ [] → SetsOffEach m holds all (is_some prior) (count_setting_off before done prior) a c u w → (next ≡ None → prior ≡ None) → IfSome next (λ r. MatchOption prior (r.count ≡ length new_reports) (λ q. r.count ≡ q.count)) → MatchOption prior (SetsOff m (holds (take (suc (length done)) all) (is_some next)) c b w v) (λ q. (b ≡ c) × (v ≡ w)) → SetsOffEach m holds all (is_some next) (count_setting_off before (done ++ update ∷ []) next) a b u v
+  pub set_off_step : (before done rest now_reports new_reports : List FinalizationUpdate) (prior next : Option Reached) (update : FinalizationUpdate) (a c b : AgendaView) (u w v : World D E S) → now_reports ≡ before ++ done → new_reports ≡ now_reports ++ update ∷ [] → TriggersFailuresEach m holds all (is_some prior) (count_setting_off before done prior) a c u w → (next ≡ None → prior ≡ None) → IfSome next (λ r. MatchOption prior (r.count ≡ length new_reports) (λ q. r.count ≡ q.count)) → MatchOption prior (TriggersFailures m (holds (take (suc (length done)) all) (is_some next)) c b w v) (λ q. (b ≡ c) × (v ≡ w)) → TriggersFailuresEach m holds all (is_some next) (count_setting_off before (done ++ update ∷ []) next) a b u v
   set_off_step before done rest now_reports new_reports None None update a c b u w v since grown set_off none met sets_off =
       let more : suc (length done) ≡ length (done ++ update ∷ []) = sym (length-append done (update ∷ []) ∙ omega arith) in
-      subst (λ n. SetsOffEach m holds all false n a b u v) more (c, w, set_off, sets_off)
+      subst (λ n. TriggersFailuresEach m holds all false n a b u v) more (c, w, set_off, sets_off)
   set_off_step before done rest now_reports new_reports None (Some r) update a c b u w v since grown set_off none met sets_off =
       let whole : length now_reports ≡ length before + length done = ap length since ∙ length-append before done in
       let long : length new_reports ≡ length now_reports + 1 = ap length grown ∙ length-append now_reports (update ∷ []) in
       let at : r.count ≡ length new_reports = met in
       let more : suc (length done) ≡ r.count - length before = omega arith in
-      subst (λ n. SetsOffEach m holds all true n a b u v) more (c, w, set_off, sets_off)
+      subst (λ n. TriggersFailuresEach m holds all true n a b u v) more (c, w, set_off, sets_off)
   set_off_step before done rest now_reports new_reports (Some q) None update a c b u w v since grown set_off none met sets_off = absurd (some_none (none refl))
     where
       some_none : Some q ≡ None → ⊥
       some_none e = cc
   set_off_step before done rest now_reports new_reports (Some q) (Some r) update a c b u w v since grown set_off none met sets_off =
       let same : r.count - length before ≡ q.count - length before = ap (λ n. n - length before) met in
-      subst (λ n. SetsOffEach m holds all true n a b u v) (sym same)
-      (subst (λ x. SetsOffEach m holds all true (q.count - length before) a x u v) (sym sets_off.0)
-      (subst (λ (x : World D E S). SetsOffEach m holds all true (q.count - length before) a c u x) (sym sets_off.1) set_off))
+      subst (λ n. TriggersFailuresEach m holds all true n a b u v) (sym same)
+      (subst (λ x. TriggersFailuresEach m holds all true (q.count - length before) a x u v) (sym sets_off.0)
+      (subst (λ (x : World D E S). TriggersFailuresEach m holds all true (q.count - length before) a c u x) (sym sets_off.1) set_off))

@@ -13,7 +13,7 @@ use Rattle.ledger_simulate.specs.Causes.{SkipsAmong, StopComes}
 use Rattle.ledger_simulate.specs.Delays.{started_where, target_at}
 use Rattle.ledger_simulate.specs.Exercise.{missed_by}
 use Rattle.ledger_simulate.specs.Failures.{views_checked}
-use Rattle.ledger_simulate.specs.Handling.{Gives, Handles, Seated, SetsOffEach, birth_at, is_poll, number_after, told_by}
+use Rattle.ledger_simulate.specs.Handling.{StepsEngine, Handles, Seated, TriggersFailuresEach, birth_at, is_poll, number_after, told_by}
 use Rattle.ledger_simulate.specs.Meaning.{Meaning}
 use Rattle.ledger_simulate.specs.Plans.{target_count}
 use Rattle.ledger_simulate.specs.Queue.{AgendaView, QueueView, empty_agenda}
@@ -83,11 +83,11 @@ module _ {D E S F P C : Type 0} (m : Meaning D E S F P C) where
     pub upto : more ≡ earlier ++ update ∷ []
     pub made : AgendaView
     pub world : World D E S
-    pub set_off : SetsOffEach m holds updates false (length earlier) a made u world
+    pub set_off : TriggersFailuresEach m holds updates false (length earlier) a made u world
     pub are : states ≡ views_checked m.height m.shown m.crashes world
 
   -- the engine that was to be told this took one step
-  pub record Took (told : Option (Peer × Option ℕ × StepEvent)) (a : AgendaView) (u : World D E S) : Type 0 where
+  pub record EngineStep (told : Option (Peer × Option ℕ × StepEvent)) (a : AgendaView) (u : World D E S) : Type 0 where
     pub pk : Peer
     pub given_birth : Option ℕ
     pub event : StepEvent
@@ -97,12 +97,12 @@ module _ {D E S F P C : Type 0} (m : Meaning D E S F P C) where
     pub out : StepOut
     pub given : AgendaView
     pub mid : World D E S
-    pub gives : Gives m pk birth event out a given u mid
+    pub gives : StepsEngine m pk birth event out a given u mid
 
   -- it reported this after these; a report passes the test, where one is told and the engines are their peers'
   pub record ReportsThen (told : Option (Peer × Option ℕ × StepEvent)) (a : AgendaView) (u : World D E S)
       (more : List FinalizationUpdate) (update : FinalizationUpdate) : Type 0 where
-    pub took : Took told a u
+    pub took : EngineStep told a u
     pub rest : List FinalizationUpdate
     pub in_turn : updates_of took.pk took.out.finalized ≡ more ++ update ∷ rest
     pub passes : Seated m.peer_of (number_after a) u.seats.entries → Passes m.reports update
@@ -111,14 +111,14 @@ module _ {D E S F P C : Type 0} (m : Meaning D E S F P C) where
   pub record SeesAfter (holds : List FinalizationUpdate → Bool → World D E S → Type 0)
       (told : Option (Peer × Option ℕ × StepEvent)) (a : AgendaView) (u : World D E S)
       (more : List FinalizationUpdate) (states : List StateView) : Type 0 where
-    pub took : Took told a u
+    pub took : EngineStep told a u
     pub sees : Sees holds took.given took.mid (updates_of took.pk took.out.finalized) more states
 
   -- a report of that step found this height above a window that wasn't entered, after those before it had set
   -- failures off
   pub record SkipsAfter (holds : List FinalizationUpdate → Bool → World D E S → Type 0)
       (told : Option (Peer × Option ℕ × StepEvent)) (a : AgendaView) (u : World D E S) (skipped : ℕ) : Type 0 where
-    pub took : Took told a u
+    pub took : EngineStep told a u
     pub skips : SkipsAmong m holds (updates_of took.pk took.out.finalized) took.given took.mid skipped
 
   -- the exit condition is asked of no report, on the states of the engines that run, where the event is a poll

@@ -4,7 +4,7 @@ use Rattle.simulate_parts.specs.Tracker.{observe_fault, tracker_of}
 use Rattle.simulate_parts.specs.declared.tracker.FinalizationUpdate.{FinalizationUpdate}
 use Rattle.simulate_parts.specs.declared.tracker.ObserveFault.{ObserveFault}
 use Rattle.ledger_simulate.specs.Failures.{first_passed, standing_of}
-use Rattle.ledger_simulate.specs.Handling.{SetsOffEach}
+use Rattle.ledger_simulate.specs.Handling.{TriggersFailuresEach}
 use Rattle.ledger_simulate.specs.Meaning.{Meaning}
 use Rattle.ledger_simulate.specs.Queue.{AgendaView}
 use Rattle.ledger_simulate.specs.declared.world.World.{World}
@@ -72,5 +72,5 @@ module _ {D E S F P C : Type 0} (m : Meaning D E S F P C) where
     pub within : count < length updates
     pub made : AgendaView
     pub world : World D E S
-    pub set_off : SetsOffEach m holds updates false count a made u world
+    pub set_off : TriggersFailuresEach m holds updates false count a made u world
     pub skips : first_passed m.height 0 m.crashes (standing_of world) ≡ Some skipped

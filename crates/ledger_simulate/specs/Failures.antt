@@ -73,8 +73,8 @@ random_count (ProcessedHeight participant first last downtime ∷ cs) = random_c
 random_count (Schedule events ∷ cs) = random_count cs
 
 -- the random failure strikes
-abbrev pub struck_at_random : {D E S : Type 0} → List Crash → Lcg → Standing D E S → Standing D E S
-struck_at_random crashes words s = crashed_all s (picked (random_count crashes) words (active_peers s.seats))
+abbrev pub crashed_at_random : {D E S : Type 0} → List Crash → Lcg → Standing D E S → Standing D E S
+crashed_at_random crashes words s = crashed_all s (picked (random_count crashes) words (active_peers s.seats))
 
 -- a scheduled action counts, and so does the crash of a peer that ran
 abbrev pub acted : {D E S : Type 0} → Action → Standing D E S → Tally
@@ -87,7 +87,7 @@ acted (Restart pk) s = record s.tally { actions = counted s.tally.actions }
 -- what the failures came to after an event that is for no engine
 abbrev pub tally_after : {D E S : Type 0} → List Crash → Event → World D E S → Tally
 tally_after crashes (Act action) w = acted action (standing_of w)
-tally_after crashes CrashTick w = (struck_at_random crashes w.words (standing_of w)).tally
+tally_after crashes CrashTick w = (crashed_at_random crashes w.words (standing_of w)).tally
 tally_after crashes ExitPoll w = tally_of w.exercise
 tally_after crashes (Recover pk) w = tally_of w.exercise
 tally_after crashes (Started pk) w = tally_of w.exercise

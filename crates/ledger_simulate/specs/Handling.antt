@@ -85,8 +85,8 @@ birth_at seats pk None = option_map (λ r. r.birth) (running_at seats pk)
 birth_at seats pk (Some birth) = if runs_since seats pk birth then Some birth else None
 
 -- nothing happened
-abbrev pub Rests : {D E S : Type 0} → AgendaView → AgendaView → List FinalizationUpdate → List FinalizationUpdate → World D E S → World D E S → Type 0
-Rests a b us vs u v = (b ≡ a) × (vs ≡ us) × (v ≡ u)
+abbrev pub IsUnchanged : {D E S : Type 0} → AgendaView → AgendaView → List FinalizationUpdate → List FinalizationUpdate → World D E S → World D E S → Type 0
+IsUnchanged a b us vs u v = (b ≡ a) × (vs ≡ us) × (v ≡ u)
 
 -- what an event of this time and number tells an engine: the engine's peer, its birth where one is given,
 -- and what it is told
@@ -126,7 +126,7 @@ pub record Grows (reports : Option (FinalizationUpdate → Bool)) (before after 
 -- what stands below is said of what a plan means
 module _ {D E S F P C : Type 0} (m : Meaning D E S F P C) where
   -- an engine took one step, and its timers and then its messages were made, in the order in which it gave them
-  pub record Gives (pk : Peer) (birth : ℕ) (event : StepEvent) (out : StepOut) (a b : AgendaView)
+  pub record StepsEngine (pk : Peer) (birth : ℕ) (event : StepEvent) (out : StepOut) (a b : AgendaView)
       (u v : World D E S) : Type 0 where
     pub step : Steps m.peer_of m.journal m.reports pk event out u.seats.entries v.seats.entries
     pub next : b.next ≡ a.next
@@ -139,7 +139,7 @@ module _ {D E S F P C : Type 0} (m : Meaning D E S F P C) where
 
   -- a report sets failures off: no window was passed, windows are entered, this holds then, and after that the
   -- delayed participants may be started
-  pub record SetsOff (holds : World D E S → Type 0) (a b : AgendaView) (u v : World D E S) : Type 0 where
+  pub record TriggersFailures (holds : World D E S → Type 0) (a b : AgendaView) (u v : World D E S) : Type 0 where
     pub made : AgendaView
     pub mid : World D E S
     pub unpassed : first_passed m.height 0 m.crashes (standing_of u) ≡ None
@@ -155,32 +155,32 @@ module _ {D E S F P C : Type 0} (m : Meaning D E S F P C) where
 
   -- the first so many of these reports set failures off, one after another, and this held as each of them did;
   -- the exit condition answered false at each but the last of them, and at that one what is given
-  abbrev pub SetsOffEach : (List FinalizationUpdate → Bool → World D E S → Type 0) → List FinalizationUpdate
+  abbrev pub TriggersFailuresEach : (List FinalizationUpdate → Bool → World D E S → Type 0) → List FinalizationUpdate
       → Bool → ℕ → AgendaView → AgendaView → World D E S → World D E S → Type 0
-  SetsOffEach holds more met zero a b u v = (b ≡ a) × (v ≡ u)
-  SetsOffEach holds more met (suc n) a b u v =
-      (made : AgendaView) × (w : World D E S) × SetsOffEach holds more false n a made u w
-      × SetsOff (holds (take (suc n) more) met) made b w v
+  TriggersFailuresEach holds more met zero a b u v = (b ≡ a) × (v ≡ u)
+  TriggersFailuresEach holds more met (suc n) a b u v =
+      (made : AgendaView) × (w : World D E S) × TriggersFailuresEach holds more false n a made u w
+      × TriggersFailures (holds (take (suc n) more) met) made b w v
 
   -- an engine took one step, and its reports were observed, with the failures that they set off
-  pub record Turns (holds : List FinalizationUpdate → Bool → World D E S → Type 0) (reached : Option Reached)
+  pub record StepsAndReports (holds : List FinalizationUpdate → Bool → World D E S → Type 0) (reached : Option Reached)
       (pk : Peer) (birth : ℕ) (event : StepEvent) (a b : AgendaView) (us vs : List FinalizationUpdate)
       (u v : World D E S) : Type 0 where
     pub out : StepOut
     pub given : AgendaView
     pub mid : World D E S
-    pub gives : Gives pk birth event out a given u mid
+    pub gives : StepsEngine pk birth event out a given u mid
     pub reported : vs ≡ us ++ updates_of pk out.finalized
-    pub set_off : SetsOffEach holds (updates_of pk out.finalized) (is_some reached)
+    pub set_off : TriggersFailuresEach holds (updates_of pk out.finalized) (is_some reached)
         (count_setting_off us (updates_of pk out.finalized) reached) given b mid v
 
   -- the engine that an event is for took a step, where it still runs
-  abbrev pub Tells : (List FinalizationUpdate → Bool → World D E S → Type 0) → Option Reached → Peer
+  abbrev pub HandlesAtEngine : (List FinalizationUpdate → Bool → World D E S → Type 0) → Option Reached → Peer
       → Option ℕ → StepEvent → AgendaView → AgendaView → List FinalizationUpdate → List FinalizationUpdate
       → World D E S → World D E S → Type 0
-  Tells holds reached pk birth event a b us vs u v =
-      MatchOption (birth_at u.seats.entries pk birth) (Rests a b us vs u v)
-      (λ n. Turns holds reached pk n event a b us vs u v)
+  HandlesAtEngine holds reached pk birth event a b us vs u v =
+      MatchOption (birth_at u.seats.entries pk birth) (IsUnchanged a b us vs u v)
+      (λ n. StepsAndReports holds reached pk n event a b us vs u v)
 
   -- an event that is for no engine was handled
   abbrev pub HandlesOther : Event → AgendaView → AgendaView → List FinalizationUpdate
@@ -194,4 +194,4 @@ module _ {D E S F P C : Type 0} (m : Meaning D E S F P C) where
       → World D E S → Type 0
   Handles holds reached key event a b us vs u v =
       MatchOption (told_by key event) (HandlesOther event a b us vs u v)
-      (λ t. Tells holds reached t.0 t.1 t.2 a b us vs u v)
+      (λ t. HandlesAtEngine holds reached t.0 t.1 t.2 a b us vs u v)

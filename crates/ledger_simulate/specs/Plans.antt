@@ -15,16 +15,16 @@ delays (ProcessedHeight participant first last downtime) = false
 delays (Schedule events) = false
 
 -- the failure is random
-abbrev pub strikes_at_random : Crash → Bool
-strikes_at_random (Random frequency downtime count) = true
-strikes_at_random (DelayRound participants round) = false
-strikes_at_random (ProcessedHeight participant first last downtime) = false
-strikes_at_random (Schedule events) = false
+abbrev pub crashes_at_random : Crash → Bool
+crashes_at_random (Random frequency downtime count) = true
+crashes_at_random (DelayRound participants round) = false
+crashes_at_random (ProcessedHeight participant first last downtime) = false
+crashes_at_random (Schedule events) = false
 
 -- the failure may stand beside these
 abbrev pub fits_beside : List Crash → Crash → Bool
 fits_beside crashes (DelayRound participants round) = not (list_any delays crashes)
-fits_beside crashes (Random frequency downtime count) = not (list_any strikes_at_random crashes)
+fits_beside crashes (Random frequency downtime count) = not (list_any crashes_at_random crashes)
 fits_beside crashes (ProcessedHeight participant first last downtime) = true
 fits_beside crashes (Schedule events) = true
 
@@ -37,7 +37,7 @@ first_or (x ∷ xs) n = x
 -- random
 abbrev pub Runs : List Peer → List Crash → Type 0
 Runs participants crashes =
-    DistinctPeers participants × (count_by delays crashes ≤ 1) × (count_by strikes_at_random crashes ≤ 1)
+    DistinctPeers participants × (count_by delays crashes ≤ 1) × (count_by crashes_at_random crashes ≤ 1)
 
 -- the participants that a failure names to be started late
 abbrev pub delayed_by : Crash → List Peer

@@ -7,7 +7,7 @@ ghost use Rattle.simulate_parts.specs.declared.engine.StepOut.{StepOut};
 ghost use Rattle.ledger_simulate.specs.Answering.{AnsweredIn, Asked, ComesIn, MetOn, SeesAfter, StopAnswered};
 ghost use Rattle.ledger_simulate.specs.Causes.{stops_asked};
 ghost use Rattle.ledger_simulate.specs.Delays.{started_by};
-ghost use Rattle.ledger_simulate.specs.Handling.{Gives, Handles, ChangesEngines, Tells, birth_at, is_poll, told_by};
+ghost use Rattle.ledger_simulate.specs.Handling.{StepsEngine, Handles, ChangesEngines, HandlesAtEngine, birth_at, is_poll, told_by};
 ghost use Rattle.ledger_simulate.specs.Plans.{target_count};
 ghost use Rattle.ledger_simulate.specs.Reaching.{ExitIs, Finds, IsReached};
 ghost use Rattle.ledger_simulate.specs.Runs.{Extends};
@@ -247,7 +247,7 @@ fn step_at<D: EngineDefinition>(
     told: Told,
 ) -> Result<Option<Reached>, Stop>
     ensures told { IfOk result (λ o.
-        Tells (⟦<Plan<D> as Means>⟧.meaning plan.now)
+        HandlesAtEngine (⟦<Plan<D> as Means>⟧.meaning plan.now)
         (Finds (⟦<Plan<D> as Means>⟧.meaning plan.now) watch.old)
         o told.pk told.birth told.event agenda.old agenda.new watch.old watch.new world.old world.new) }
     ensures updates { OnOk result (Extends watch.old watch.new) }
@@ -296,22 +296,21 @@ fn step_and_send<D: EngineDefinition>(
     requires { IsTrue (runs world.old.seats.entries pk) }
     ensures { IfOk result (λ updates.
         (out : StepOut)
-        × Gives (⟦<Plan<D> as Means>⟧.meaning plan.now) pk birth
+        × StepsEngine (⟦<Plan<D> as Means>⟧.meaning plan.now) pk birth
         event out agenda.old agenda.new world.old world.new
         × (updates.items ≡ updates_of pk out.finalized)) }
 {
     let mut out = StepOut::new(world.alloc);
-    match step_engine(
+    let stepped = step_engine(
         world.alloc,
         &plan.engine,
         &mut world.seats,
         &pk,
         &event,
         &mut out,
-    ) {
-        Ok(true) => {}
-        Ok(false) => unreachable!(),
-        Err(fault) => return Err(fault),
+    )?;
+    if !stepped {
+        unreachable!();
     }
     let StepOut {
         timers,

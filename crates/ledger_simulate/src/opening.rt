@@ -34,14 +34,9 @@ pub fn open<D: EngineDefinition>(
         (ChangesEnginesAlone (D.peer_of plan.now.engine) agenda.old agenda.new world.old world.new) }
     ensures exercise { OnOk result (world.new.exercise ≡ world.old.exercise) }
 {
-    match start_prompt(plan, world, agenda) {
-        Ok(()) => {}
-        Err(fault) => return Err(fault),
-    }
-    match set_failures(agenda, plan.crashes.as_slice(), polls) {
-        Ok(()) => Ok(()),
-        Err(fault) => Err(fault),
-    }
+    start_prompt(plan, world, agenda)?;
+    set_failures(agenda, plan.crashes.as_slice(), polls)?;
+    Ok(())
 }
 
 /// Starts the participants that aren't delayed, in order.
@@ -60,10 +55,7 @@ fn start_prompt<D: EngineDefinition>(
     ensures exercise { OnOk result (world.new.exercise ≡ world.old.exercise) }
 {
     for pk in plan.participants.as_slice() {
-        match start_if_prompt(plan, world, agenda, pk) {
-            Ok(()) => {}
-            Err(fault) => return Err(fault),
-        }
+        start_if_prompt(plan, world, agenda, pk)?;
     }
     Ok(())
 }
@@ -87,10 +79,7 @@ fn start_if_prompt<D: EngineDefinition>(
     if is_among(named_late_by(plan.crashes.as_slice()), pk) {
         return Ok(());
     }
-    match world.launch(plan, agenda, *pk) {
-        Ok(()) => Ok(()),
-        Err(fault) => Err(fault),
-    }
+    world.launch(plan, agenda, *pk)
 }
 
 /// Sets the actions of the schedules, the random crash and the exit poll.

@@ -7,7 +7,7 @@ ghost use Rattle.ledger_simulate.specs.Answering.{IsComplaint, IsFailure, MetOn,
 ghost use Rattle.ledger_simulate.specs.Causes.{SkipsAmong, StopComes, stops_asked};
 ghost use Rattle.ledger_simulate.specs.Delays.{started_by, starts, target_at};
 ghost use Rattle.ledger_simulate.specs.Failures.{first_passed, standing_of, views_checked};
-ghost use Rattle.ledger_simulate.specs.Handling.{ChangesEnginesAlone, SetsOff, SetsOffEach, count_setting_off};
+ghost use Rattle.ledger_simulate.specs.Handling.{ChangesEnginesAlone, TriggersFailures, TriggersFailuresEach, count_setting_off};
 ghost use Rattle.ledger_simulate.specs.Plans.{target_count};
 ghost use Rattle.ledger_simulate.specs.Reaching.{ExitIs, Finds, IsReached, Sound};
 ghost use Rattle.ledger_simulate.specs.Stops.{stops_late};
@@ -112,7 +112,7 @@ fn take_report<D: EngineDefinition>(
     ensures changes_alone { OnOk result
         (ChangesEnginesAlone (D.peer_of plan.now.engine) agenda.old agenda.new world.old world.new) }
     ensures sets_off { IfOk result (λ o.
-        SetsOff (⟦<Plan<D> as Means>⟧.meaning plan.now)
+        TriggersFailures (⟦<Plan<D> as Means>⟧.meaning plan.now)
         (Finds (⟦<Plan<D> as Means>⟧.meaning plan.now) watch.old
         (update ∷ []) (is_some o))
         agenda.old agenda.new world.old world.new) }
@@ -281,7 +281,7 @@ fn next_report<D: EngineDefinition>(
         (ChangesEnginesAlone (D.peer_of plan.now.engine) agenda.old agenda.new world.old world.new) }
     ensures sets_off { IfOk result (λ o.
         MatchOption reached
-        (SetsOff (⟦<Plan<D> as Means>⟧.meaning plan.now)
+        (TriggersFailures (⟦<Plan<D> as Means>⟧.meaning plan.now)
         (Finds (⟦<Plan<D> as Means>⟧.meaning plan.now) watch.old
         (update ∷ []) (is_some o))
         agenda.old agenda.new world.old world.new)
@@ -351,7 +351,7 @@ pub fn take_reports<D: EngineDefinition>(
     ensures changes_alone { OnOk result
         (ChangesEnginesAlone (D.peer_of plan.now.engine) agenda.old agenda.new world.old world.new) }
     ensures set_off { IfOk result (λ o.
-        SetsOffEach (⟦<Plan<D> as Means>⟧.meaning plan.now)
+        TriggersFailuresEach (⟦<Plan<D> as Means>⟧.meaning plan.now)
         (Finds (⟦<Plan<D> as Means>⟧.meaning plan.now) watch.old)
         updates.items (is_some o) (count_setting_off watch.old updates.items o) agenda.old agenda.new
         world.old world.new) }

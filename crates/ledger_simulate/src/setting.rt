@@ -2,7 +2,7 @@
 ghost use Rattle.std.specs.Prelude.{◌≡◌, ◌≤◌, ◌++◌, ◌∷◌, [], IfOk, IsTrue, count_by};
 ghost use Rattle.std.specs.List.{list_any};
 ghost use Rattle.simulate_parts.specs.Engine.{DistinctPeers};
-ghost use Rattle.ledger_simulate.specs.Plans.{delays, fits_beside, strikes_at_random};
+ghost use Rattle.ledger_simulate.specs.Plans.{delays, fits_beside, crashes_at_random};
 
 use ledger_codec::{List, OutOfMemory};
 use simulate_parts::{Crash, Peer, push};
@@ -15,7 +15,7 @@ pub struct Setting {
     pub crashes: List<Crash>,
     pub ghost distinct: { DistinctPeers participants },
     pub ghost one_delay: { count_by delays crashes ≤ 1 },
-    pub ghost one_random: { count_by strikes_at_random crashes ≤ 1 },
+    pub ghost one_random: { count_by crashes_at_random crashes ≤ 1 },
 }
 
 impl Setting {
@@ -69,7 +69,7 @@ fn any_delays(crashes: &[Crash]) -> bool
 
 /// Whether one of these failures is random.
 fn any_at_random(crashes: &[Crash]) -> bool
-    ensures { result ≡ list_any strikes_at_random crashes.now }
+    ensures { result ≡ list_any crashes_at_random crashes.now }
 {
     crashes.iter().any(is_random)
 }
@@ -83,7 +83,7 @@ fn is_delay(crash: &Crash) -> bool
 
 /// Whether a failure is random.
 fn is_random(crash: &Crash) -> bool
-    ensures { result ≡ strikes_at_random crash.now }
+    ensures { result ≡ crashes_at_random crash.now }
 {
     matches!(crash, Crash::Random { .. })
 }

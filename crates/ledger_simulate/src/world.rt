@@ -9,7 +9,7 @@ ghost use Rattle.simulate_parts.specs.Team.{names, place_of};
 ghost use Rattle.simulate_parts.specs.Tracker.{finalized_rounds, peer_cmp};
 ghost use Rattle.ledger_simulate.specs.Causes.{IsSkip};
 ghost use Rattle.ledger_simulate.specs.Delays.{Launches, delay_round, reaches, starts};
-ghost use Rattle.ledger_simulate.specs.Failures.{acted, crashed, crashed_all, first_passed, height_at, looked_at, no_tally, passed_at, picked, random_count, standing_of, struck_at_random, tally_of, window_entered, window_passed, windows_entered};
+ghost use Rattle.ledger_simulate.specs.Failures.{acted, crashed, crashed_all, first_passed, height_at, looked_at, no_tally, passed_at, picked, random_count, standing_of, crashed_at_random, tally_of, window_entered, window_passed, windows_entered};
 ghost use Rattle.ledger_simulate.specs.Handling.{ChangesEnginesAlone, ChangesEngines};
 ghost use Rattle.ledger_simulate.specs.Links.{changed_links, common_link};
 ghost use Rattle.ledger_simulate.specs.Opening.{starts as first_starts};
@@ -99,20 +99,15 @@ impl<D: EngineDefinition> World<D> {
             fault: self.fault,
             birth: agenda.number()?,
         };
-        match start_engine(
+        start_engine(
             self.alloc,
             &plan.engine,
             participants,
             &mut self.seats,
             start,
-        ) {
-            Ok(()) => {}
-            Err(fault) => return Err(fault),
-        }
-        match agenda.after(0, Event::Started { pk }) {
-            Ok(()) => Ok(()),
-            Err(fault) => Err(fault),
-        }
+        )?;
+        agenda.after(0, Event::Started { pk })?;
+        Ok(())
     }
 
     /// Starts a participant's engine now; nothing where the peer is none.
@@ -129,10 +124,7 @@ impl<D: EngineDefinition> World<D> {
         if !is_among(plan.participants.as_slice(), &pk) {
             return Ok(());
         }
-        match self.launch(plan, agenda, pk) {
-            Ok(()) => Ok(()),
-            Err(fault) => Err(fault),
-        }
+        self.launch(plan, agenda, pk)
     }
 
     /// Stops a peer, counts the crash where it ran, and says whether it did.
@@ -161,10 +153,8 @@ impl<D: EngineDefinition> World<D> {
         if !self.crash(&pk) {
             return Ok(());
         }
-        match agenda.after(downtime, Event::Recover { pk }) {
-            Ok(()) => Ok(()),
-            Err(fault) => Err(fault),
-        }
+        agenda.after(downtime, Event::Recover { pk })?;
+        Ok(())
     }
 
     /// Does what a schedule says, and counts it.
@@ -191,19 +181,17 @@ impl<D: EngineDefinition> World<D> {
                 Ok(())
             }
             Action::UpdateLink { from, to, link } => {
-                match self.update_link(plan, from, to, link) {
-                    Ok(()) => Ok(()),
-                    Err(fault) => Err(fault),
-                }
+                self.update_link(plan, from, to, link)?;
+                Ok(())
             }
             Action::Crash(pk) => {
                 self.crash(&pk);
                 Ok(())
             }
-            Action::Restart(pk) => match self.relaunch(plan, agenda, pk) {
-                Ok(()) => Ok(()),
-                Err(fault) => Err(fault),
-            },
+            Action::Restart(pk) => {
+                self.relaunch(plan, agenda, pk)?;
+                Ok(())
+            }
         }
     }
 
@@ -236,7 +224,7 @@ impl<D: EngineDefinition> World<D> {
         ensures changes { OnOk result
             (ChangesEngines (D.peer_of plan.now.engine) agenda.old agenda.new self.old self.new) }
         ensures tally { OnOk result (tally_of self.new.exercise
-            ≡ (struck_at_random plan.now.crashes self.old.words (standing_of self.old)).tally) }
+            ≡ (crashed_at_random plan.now.crashes self.old.words (standing_of self.old)).tally) }
         ensures started { OnOk result
             (self.new.exercise.delayed_started ≡ self.old.exercise.delayed_started) }
     {
@@ -244,14 +232,9 @@ impl<D: EngineDefinition> World<D> {
             return Ok(());
         };
         let picked = victims(self.alloc, &mut self.words, &self.seats, random.count)?;
-        match self.crash_all(agenda, picked, random.downtime) {
-            Ok(()) => {}
-            Err(fault) => return Err(fault),
-        }
-        match agenda.after(random.frequency, Event::CrashTick) {
-            Ok(()) => Ok(()),
-            Err(fault) => Err(fault),
-        }
+        self.crash_all(agenda, picked, random.downtime)?;
+        agenda.after(random.frequency, Event::CrashTick)?;
+        Ok(())
     }
 
     /// Stops these peers for a downtime.
@@ -269,10 +252,7 @@ impl<D: EngineDefinition> World<D> {
             (self.new.exercise.delayed_started ≡ self.old.exercise.delayed_started) }
     {
         for pk in peers {
-            match self.crash_for(agenda, pk, downtime) {
-                Ok(()) => {}
-                Err(fault) => return Err(fault),
-            }
+            self.crash_for(agenda, pk, downtime)?;
         }
         Ok(())
     }
@@ -327,10 +307,7 @@ impl<D: EngineDefinition> World<D> {
                     last: *last,
                     downtime: *downtime,
                 };
-                match self.enter_window(agenda, index, window) {
-                    Ok(()) => Ok(()),
-                    Err(stop) => Err(stop),
-                }
+                self.enter_window(agenda, index, window)
             }
             _ => Ok(()),
         }
@@ -419,13 +396,9 @@ impl<D: EngineDefinition> World<D> {
             return Ok(());
         }
         let delayed = late_ones(self.alloc, participants, named_late_by(crashes))?;
-        match self.launch_all(plan, agenda, delayed) {
-            Ok(()) => {
-                self.exercise.delayed_started = true;
-                Ok(())
-            }
-            Err(fault) => Err(fault),
-        }
+        self.launch_all(plan, agenda, delayed)?;
+        self.exercise.delayed_started = true;
+        Ok(())
     }
 
     /// Starts these participants' engines now, in order.
@@ -442,10 +415,7 @@ impl<D: EngineDefinition> World<D> {
         ensures exercise { OnOk result (self.new.exercise ≡ self.old.exercise) }
     {
         for pk in participants {
-            match self.launch(plan, agenda, pk) {
-                Ok(()) => {}
-                Err(fault) => return Err(fault),
-            }
+            self.launch(plan, agenda, pk)?;
         }
         Ok(())
     }

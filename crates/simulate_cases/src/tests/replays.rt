@@ -2,7 +2,7 @@
 
 ghost use Rattle.std.specs.Prelude.{◌≡◌, ◌≤◌, IfOk, count_by, false};
 ghost use Rattle.simulate_parts.specs.Engine.{DistinctPeers};
-ghost use Rattle.ledger_simulate.specs.Plans.{Runs, delays, strikes_at_random};
+ghost use Rattle.ledger_simulate.specs.Plans.{Runs, delays, crashes_at_random};
 
 use super::runs::TwoTracked;
 use ledger_codec::{List, OutOfMemory};
@@ -264,8 +264,8 @@ fn set_link(from: u64, to: u64, latency: u64) -> Action {
 /// late nor random.
 fn late_beside(alloc: Global, other: Crash) -> Result<List<Crash>, OutOfMemory>
     requires delays { delays other ≡ false }
-    requires random { strikes_at_random other ≡ false }
-    ensures { IfOk result (λ cs. (count_by delays cs ≤ 1) × (count_by strikes_at_random cs ≤ 1)) }
+    requires random { crashes_at_random other ≡ false }
+    ensures { IfOk result (λ cs. (count_by delays cs ≤ 1) × (count_by crashes_at_random cs ≤ 1)) }
 {
     let mut participants = List::new(alloc);
     push(alloc, &mut participants, Peer(3))?;
@@ -281,7 +281,7 @@ fn late_beside(alloc: Global, other: Crash) -> Result<List<Crash>, OutOfMemory>
 
 /// A random crash every 20 ms.
 fn every_20(alloc: Global) -> Result<List<Crash>, OutOfMemory>
-    ensures { IfOk result (λ cs. (count_by delays cs ≤ 1) × (count_by strikes_at_random cs ≤ 1)) }
+    ensures { IfOk result (λ cs. (count_by delays cs ≤ 1) × (count_by crashes_at_random cs ≤ 1)) }
 {
     let mut crashes = List::new(alloc);
     let random = Crash::Random {

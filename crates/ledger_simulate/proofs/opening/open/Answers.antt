@@ -5,9 +5,9 @@ use Rattle.ledger_simulate.proofs.Beginning.{adds_failures}
 use Rattle.ledger_simulate.proofs.Changing.{changes_alone_still, changes_alone_then}
 use Rattle.ledger_simulate.proofs.opening.open.Goals as goal
 
-pub returns-in-Ok-set_failures-clause-changes_alone : goal.returns-in-Ok-set_failures-clause-changes_alone
-returns-in-Ok-set_failures-clause-changes_alone g c =
+pub returns-clause-changes_alone : goal.returns-clause-changes_alone
+returns-clause-changes_alone g c =
     let peer_of = g.D.EngineDefinition.peer_of c.args.plan.now.engine in
-    changes_alone_then peer_of c.args.agenda.now c.start_prompt.new.agenda c.set_failures.new.agenda c.args.world.now c.start_prompt.new.world c.start_prompt.new.world c.in-Ok.ensures.changes_alone
+    changes_alone_then peer_of c.args.agenda.now c.start_prompt.new.agenda c.set_failures.new.agenda c.args.world.now c.start_prompt.new.world c.start_prompt.new.world c.in_ok-start_prompt.ensures.changes_alone
     (changes_alone_still peer_of c.start_prompt.new.agenda c.set_failures.new.agenda c.start_prompt.new.world c.start_prompt.new.world
-    (adds_failures c.start_prompt.new.agenda c.set_failures.new.agenda c.args.plan.now.crashes c.args.polls (c.in-Ok-set_failures.ensures ∙ ap (λ cs. record c.start_prompt.new.agenda { events = c.start_prompt.new.agenda.events ++ flat_map actions_of cs ++ flat_map first_tick cs ++ first_poll c.args.polls }) c.as_slice.ensures)) refl refl refl refl)
+    (adds_failures c.start_prompt.new.agenda c.set_failures.new.agenda c.args.plan.now.crashes c.args.polls (c.in_ok-set_failures.ensures ∙ ap (λ cs. record c.start_prompt.new.agenda { events = c.start_prompt.new.agenda.events ++ flat_map actions_of cs ++ flat_map first_tick cs ++ first_poll c.args.polls }) c.as_slice.ensures)) refl refl refl refl)

@@ -8,9 +8,9 @@ pub loop-pk-preserved : goal.loop-pk-preserved
 loop-pk-preserved g c = record {
   made =
       starts_more (named_late c.args.plan.now.crashes) c.as_slice-pk-items.result.now c.loop-pk.pk-index (record { 0 = 0 }) c.args.agenda.now c.loop-pk.agenda c.start_if_prompt.new.agenda c.loop-pk-test.true
-      c.loop-pk.invariant.made c.in-Ok.ensures.made;
+      c.loop-pk.invariant.made c.in_ok-start_if_prompt.ensures.made;
   changes_alone =
       changes_alone_then (g.D.EngineDefinition.peer_of c.args.plan.now.engine) c.args.agenda.now c.loop-pk.agenda c.start_if_prompt.new.agenda c.args.world.now c.loop-pk.world c.start_if_prompt.new.world
-      c.loop-pk.invariant.changes_alone c.in-Ok.ensures.changes_alone;
-  exercise = c.in-Ok.ensures.exercise ∙ c.loop-pk.invariant.exercise;
+      c.loop-pk.invariant.changes_alone c.in_ok-start_if_prompt.ensures.changes_alone;
+  exercise = c.in_ok-start_if_prompt.ensures.exercise ∙ c.loop-pk.invariant.exercise;
 }

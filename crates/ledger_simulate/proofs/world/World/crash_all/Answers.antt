@@ -9,12 +9,12 @@ pub loop-pk-preserved : goal.loop-pk-preserved
 loop-pk-preserved g c = record {
   changes = λ peer_of.
       changes_then peer_of c.args.agenda.now c.loop-pk.agenda c.crash_for.new.agenda c.args.self.now c.loop-pk.self c.crash_for.new.self
-      (c.loop-pk.invariant.changes peer_of) (c.in-Ok.ensures.changes_alone peer_of).changes;
+      (c.loop-pk.invariant.changes peer_of) (c.in_ok-crash_for.ensures.changes_alone peer_of).changes;
   standing =
-      ap (λ s. crashed_all s (into_iter_items c.next.new.self)) c.in-Ok.ensures.standing
+      ap (λ s. crashed_all s (into_iter_items c.next.new.self)) c.in_ok-crash_for.ensures.standing
       ∙ ap (crashed_all (standing_of c.loop-pk.self)) (sym c.in-Some.ensures.steps.0)
       ∙ c.loop-pk.invariant.standing;
-  started = c.in-Ok.ensures.started ∙ c.loop-pk.invariant.started;
+  started = c.in_ok-crash_for.ensures.started ∙ c.loop-pk.invariant.started;
 }
 
 pub returns-clause-standing : goal.returns-clause-standing

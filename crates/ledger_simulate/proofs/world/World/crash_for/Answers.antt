@@ -8,8 +8,8 @@ returns-then-not-crash-clause-changes_alone g c = λ peer_of.
     changes_alone_stop peer_of c.args.agenda.now c.args.agenda.now c.args.self.now c.crash.new.self c.args.pk (adds_none c.args.agenda.now c.args.agenda.now refl)
     (ap (λ s. s.seats) c.crash.ensures.standing) c.crash.ensures.rules c.crash.ensures.words c.crash.ensures.links
 
-pub returns-in-Ok-clause-changes_alone : goal.returns-in-Ok-clause-changes_alone
-returns-in-Ok-clause-changes_alone g c = λ peer_of.
+pub returns-clause-changes_alone : goal.returns-clause-changes_alone
+returns-clause-changes_alone g c = λ peer_of.
     changes_alone_stop peer_of c.args.agenda.now c.after.new.self c.args.self.now c.crash.new.self c.args.pk
-    (adds_one c.args.agenda.now c.after.new.self (c.args.downtime, Recover c.args.pk) c.in-Ok.ensures.ok refl)
+    (adds_one c.args.agenda.now c.after.new.self (c.args.downtime, Recover c.args.pk) c.in_ok-after.ensures.ok refl)
     (ap (λ s. s.seats) c.crash.ensures.standing) c.crash.ensures.rules c.crash.ensures.words c.crash.ensures.links

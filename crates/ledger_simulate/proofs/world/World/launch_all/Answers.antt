@@ -8,7 +8,7 @@ pub loop-pk-preserved : goal.loop-pk-preserved
 loop-pk-preserved g c = record {
   changes_alone =
       changes_alone_then (g.D.EngineDefinition.peer_of c.args.plan.now.engine) c.args.agenda.now c.loop-pk.agenda c.launch.new.agenda c.args.self.now c.loop-pk.self c.launch.new.self
-      c.loop-pk.invariant.changes_alone c.in-Ok.ensures.changes_alone;
-  events = starts_more c.args.agenda.now.events c.args.participants.items (into_iter_items c.loop-pk.pk-iterator) (into_iter_items c.next.new.self) c.loop-pk.agenda c.launch.new.agenda c.in-Some.pk c.loop-pk.invariant.events c.in-Some.ensures.steps.0 c.in-Ok.ensures.made;
-  exercise = c.in-Ok.ensures.exercise ∙ c.loop-pk.invariant.exercise;
+      c.loop-pk.invariant.changes_alone c.in_ok-launch.ensures.changes_alone;
+  events = starts_more c.args.agenda.now.events c.args.participants.items (into_iter_items c.loop-pk.pk-iterator) (into_iter_items c.next.new.self) c.loop-pk.agenda c.launch.new.agenda c.in-Some.pk c.loop-pk.invariant.events c.in-Some.ensures.steps.0 c.in_ok-launch.ensures.made;
+  exercise = c.in_ok-launch.ensures.exercise ∙ c.loop-pk.invariant.exercise;
 }
