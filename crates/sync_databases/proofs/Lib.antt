@@ -1,1 +1,2 @@
 pub mod Syncing
+mod Fresh

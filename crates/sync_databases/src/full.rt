@@ -1,6 +1,10 @@
 //! Full databases.
 ghost use Rattle.std.specs.Prelude.{◌≡◌, [], IsTrue, IfOk};
+ghost use Rattle.ledger_sync.specs.Served.{StandsFor, LogServed};
+ghost use Rattle.sync_client.specs.Owing.{AreSent, Begins};
+ghost use Rattle.sync_fetch.specs.Served.{IsTargetOf};
 ghost use Rattle.sync_fetch.specs.States.{KeptUnlessNetwork, KeptAndNoNetwork};
+ghost use Rattle.sync_net.specs.Core.{LogData};
 ghost use Rattle.sync_databases.specs.Synced.{IsAt, LogSynced};
 
 use crate::state_sync::StateSyncDb;
@@ -15,7 +19,8 @@ use sync_fetch::StateFault;
 use sync_net::{Link, Machine};
 
 /// The log of the target's range, by a machine without pending requests, which owns the numbers.
-/// `WrongState` says that the part that came is none.
+/// `WrongState` says that the part that came is none. Over a link that serves a log with this target, and owes nothing,
+/// it is that log from its floor on, unless a call of the link failed, memory was wanting or no number was left.
 pub fn sync_log<F: Family, L: Link>(
     alloc: Global,
     target: &Target,
@@ -33,6 +38,11 @@ where
     ensures exact { IsTrue L.exact → KeptUnlessNetwork result (L.faults link.old) (L.faults link.new) }
     ensures steady { L.steady link.old →
         L.steady link.new × KeptAndNoNetwork result (L.faults link.old) (L.faults link.new) }
+    ensures serving { (held : LogData) (h : StandsFor F.Op.written F.Op.Spell.sound F.floor_of held)
+        → AreSent F.Op.reading F.Op.written F.Op.spelling F.Op.Spell.sound
+        → IsTargetOf F.Op.written held h.log target.now
+        → Begins held machine.old (L.service link.old)
+        → LogServed F.Op.written held h.log result machine.new (L.service link.new) }
 {
     let synced = match sync_hashed(alloc, target, &mut NoTargets, limits, machine, link) {
         Ok(synced) => synced,

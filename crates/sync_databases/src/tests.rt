@@ -6,6 +6,8 @@ ghost use Rattle.sync_client.specs.declared.fault.SyncFault.TheVariants.{Network
 ghost use Rattle.sync_fetch.specs.States.{KeptUnlessNetwork};
 ghost use Rattle.sync_fetch.specs.declared.fault.StateFault.TheVariants.{Fetch};
 
+mod serving;
+
 use crate::StateSyncDb;
 use ledger_activity::CurrentFamily;
 use ledger_codec::Digest;

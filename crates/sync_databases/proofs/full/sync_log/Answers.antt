@@ -1,5 +1,6 @@
-use Rattle.std.proofs.Common.{inl, refl}
+use Rattle.std.proofs.Common.{[], inl, refl}
 use Rattle.ledger_sync.proofs.Opening.{kept_then, steady_then, kept_opened, steady_opened}
+use Rattle.ledger_sync.proofs.Serving.{log_served, serves_of, synced_is, unopened_served}
 use Rattle.sync_databases.specs.Synced.{PartSynced}
 use Rattle.sync_databases.proofs.Syncing.{at_target, unopened}
 use Rattle.sync_databases.proofs.full.sync_log.Goals as goal
@@ -38,3 +39,18 @@ pub returns-in-Err-opened-clause-steady : goal.returns-in-Err-opened-clause-stea
 returns-in-Err-opened-clause-steady g c = λ t.
     let one = c.in-Ok.ensures.steady t in
     (one.0, steady_opened (Unit {0}) g.F.Family.floor_of c.in-Ok.synced.1.part c.in-Err-opened.fault (g.L.Link.faults c.args.link.now) (g.L.Link.faults c.sync_hashed.new.link) c.in-Err-opened.ensures one.1)
+
+pub returns-in-Err-clause-serving : goal.returns-in-Err-clause-serving
+returns-in-Err-clause-serving g c held h sent t begins = c.in-Err.ensures.serving held [] sent (serves_of g.F.Op.Spell.written g.F.Op.Spell.sound g.F.Family.floor_of held h c.args.target.now t) begins refl tt
+
+pub returns-in-Ok-opened-clause-serving : goal.returns-in-Ok-opened-clause-serving
+returns-in-Ok-opened-clause-serving g c held h sent t begins =
+    let own = c.in-Ok.ensures.serving held [] sent (serves_of g.F.Op.Spell.written g.F.Op.Spell.sound g.F.Family.floor_of held h c.args.target.now t) begins refl tt in
+    let s = synced_is c.in-Ok.synced c.args.target.now c.in-Ok.ensures.took in
+    log_served g.F.Op.Spell.written g.F.Op.Spell.sound g.F.Family.floor_of held h c.args.target.now t g.F.Op.Leaf.spelling c.in-Ok.synced.0 c.in-Ok.synced.1.part s c.in-Ok.ensures.part _ (g.L.Link.service c.sync_hashed.new.link) own c.in-Ok-opened.log c.in-Ok-opened.ensures
+
+pub returns-in-Err-opened-clause-serving : goal.returns-in-Err-opened-clause-serving
+returns-in-Err-opened-clause-serving g c held h sent t begins =
+    let own = c.in-Ok.ensures.serving held [] sent (serves_of g.F.Op.Spell.written g.F.Op.Spell.sound g.F.Family.floor_of held h c.args.target.now t) begins refl tt in
+    let s = synced_is c.in-Ok.synced c.args.target.now c.in-Ok.ensures.took in
+    unopened_served g.F.Op.Spell.written g.F.Op.Spell.sound g.F.Family.floor_of held h c.args.target.now t g.F.Op.Leaf.spelling c.in-Ok.synced.0 c.in-Ok.synced.1.part s c.in-Ok.ensures.part _ (g.L.Link.service c.sync_hashed.new.link) own c.in-Err-opened.fault c.in-Err-opened.ensures
