@@ -3,6 +3,7 @@
 mod ends;
 mod gates;
 mod kept;
+mod promises;
 mod shared;
 mod spawned;
 mod started;

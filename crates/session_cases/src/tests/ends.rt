@@ -1,5 +1,5 @@
 //! What a session over a tape sends, and how it ends.
-ghost use Rattle.std.specs.Prelude.{IfSome};
+ghost use Rattle.std.specs.Prelude.{◌≡◌, [], IfSome};
 ghost use Rattle.sync_shared.specs.Replies.{Belongs};
 
 use super::{digest_of, is_sent, three};
@@ -17,23 +17,24 @@ use sync_shared::{Pass, SharedLog};
 const REQUEST: [u8; 10] = [9, 2, 0, 0, 0, 0, 0, 0, 0, 1];
 
 /// Two such frames, of numbers 1 and 2, with one of three bytes between them that is no message.
-const AROUND: [u8; 24] = [
+pub(super) const AROUND: [u8; 24] = [
     9, 2, 0, 0, 0, 0, 0, 0, 0, 1, 3, 250, 251, 252, 9, 2, 0, 0, 0, 0, 0, 0, 0, 2,
 ];
 
 /// The SHA-256 of the two replies' frames.
-const REPLIES: Digest = [
+pub(super) const REPLIES: Digest = [
     39, 76, 70, 198, 150, 127, 54, 33, 126, 231, 110, 100, 166, 231, 102, 124, 169, 248, 120, 168,
     230, 137, 39, 149, 202, 243, 16, 56, 105, 26, 80, 158,
 ];
 
 /// A log that is shared by one pass of so many turns.
-fn one_shared<F: Family>(
+pub(super) fn one_shared<F: Family>(
     alloc: Global,
     log: Log<F, Sha256Hasher>,
     turns: u32,
 ) -> Option<(SharedLog<F>, Pass<F>)>
-    ensures { IfSome result (λ r. Belongs r.0.from r.1) }
+    ensures belongs { IfSome result (λ r. Belongs r.0.from r.1) }
+    ensures unseen { IfSome result (λ r. r.1.seen ≡ []) }
 {
     let (shared, mut passes) = SharedLog::share(alloc, log, 1, turns).ok()?;
     let pass = passes.pop()?;
@@ -41,7 +42,10 @@ fn one_shared<F: Family>(
 }
 
 /// A tape of these bytes, whose call of this number fails.
-fn tape(alloc: Global, bytes: &[u8], failing: u64) -> Option<TapeLink> {
+pub(super) fn tape(alloc: Global, bytes: &[u8], failing: u64) -> Option<TapeLink>
+    ensures given { IfSome result (λ link. link.given ≡ []) }
+    ensures sent { IfSome result (λ link. link.sent ≡ []) }
+{
     let bytes = Vec::from_slice(alloc, bytes).ok()?;
     let failing = Vec::from_slice(alloc, &[failing]).ok()?;
     Some(TapeLink::new(alloc, bytes, Vec::new(alloc), failing))
