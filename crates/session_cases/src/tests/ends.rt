@@ -35,6 +35,8 @@ pub(super) fn one_shared<F: Family>(
 ) -> Option<(SharedLog<F>, Pass<F>)>
     ensures belongs { IfSome result (λ r. Belongs r.0.from r.1) }
     ensures unseen { IfSome result (λ r. r.1.seen ≡ []) }
+    ensures caller { IfSome result (λ r. r.1.caller ≡ 0) }
+    ensures passes { IfSome result (λ r. r.0.passes ≡ 1) }
 {
     let (shared, mut passes) = SharedLog::share(alloc, log, 1, turns).ok()?;
     let pass = passes.pop()?;

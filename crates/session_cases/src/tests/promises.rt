@@ -7,6 +7,7 @@ ghost use Rattle.sync_shared.specs.Replies.{Belongs};
 ghost use Rattle.turn_lock.specs.History.{calls};
 
 use super::ends::{AROUND, REPLIES, one_shared, tape};
+use super::shared::size_told;
 use super::{digest_of, is_sent, three};
 use ledger_codec::Digest;
 use ledger_log::AnyFamily;
@@ -36,12 +37,15 @@ fn answered<R: Wait>(
     run_session(rt, alloc, shared, pass, link, &OpenGate, 0)
 }
 
-/// The log and the history that one pass shared: nobody else has a call in it.
-fn closed(alloc: Global) -> Option<Closed<AnyFamily>>
+/// The log that one caller shared and asked for its target, and its history: nobody else has a call in it.
+fn closed<R: Wait>(rt: &R, alloc: Global) -> Option<Closed<AnyFamily>>
     ensures { IfSome result (λ closed. calls 1 closed.history.items ≡ []) }
 {
     let log = three(alloc)?;
-    let (shared, passes) = SharedLog::share(alloc, log, 1, 2).ok()?;
+    let (shared, mut pass) = one_shared(alloc, log, 2)?;
+    let _size = size_told(rt, alloc, &shared, &mut pass);
+    let mut passes = Vec::new(alloc);
+    passes.push(pass).ok()?;
     Some(shared.close(passes))
 }
 
@@ -59,8 +63,8 @@ fn sent_over<R: Wait>(rt: &R, alloc: Global, bytes: &[u8]) -> Option<Digest> {
 }
 
 /// The calls and the size of a log that is closed.
-fn left(alloc: Global) -> Option<(usize, u64)> {
-    let closed = closed(alloc)?;
+fn left<R: Wait>(rt: &R, alloc: Global) -> Option<(usize, u64)> {
+    let closed = closed(rt, alloc)?;
     Some((closed.history.len(), closed.log.size().get()))
 }
 
@@ -73,5 +77,5 @@ fn a_session_that_is_done_answered_all(rt: HostRuntime) -> Result<(), Fail> {
 
 #[test]
 fn a_closed_log_has_no_other_calls(rt: HostRuntime) {
-    assert_eq!(rt; left(rt.alloc()), Some((0, 3)));
+    assert_eq!(rt; left(&rt, rt.alloc()), Some((1, 3)));
 }

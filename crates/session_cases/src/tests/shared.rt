@@ -1,4 +1,5 @@
 //! Worked calls on a shared log.
+ghost use Rattle.std.specs.Prelude.{◌≡◌};
 ghost use Rattle.sync_shared.specs.Replies.{Belongs};
 
 use ledger_log::{AnyFamily, AnyOp, Family, Log};
@@ -11,14 +12,15 @@ use sync_net::{GetSyncTargetRequest, Message};
 use sync_shared::{Pass, ShareRefusal, SharedLog};
 
 /// The size that a shared log tells when it is asked for its target, 0 where it refuses.
-fn size_told<F: Family, R: Wait>(
+pub(super) fn size_told<F: Family, R: Wait>(
     rt: &R,
     alloc: Global,
     shared: &SharedLog<F>,
     pass: &mut Pass<F>,
 ) -> u64
     requires { Belongs shared.now.from pass.old }
-    ensures { Belongs shared.now.from pass.new }
+    ensures belongs { Belongs shared.now.from pass.new }
+    ensures caller { pass.new.caller ≡ pass.old.caller }
 {
     let request = Message::GetSyncTargetRequest(GetSyncTargetRequest { request_id: 9 });
     let reply = shared.serve(rt, alloc, pass, request);
