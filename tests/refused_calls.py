@@ -16,7 +16,7 @@ import sys
 import tempfile
 
 TOP = pathlib.Path(__file__).resolve().parent.parent
-sys.path[:0] = [str(TOP / "tests"), str(TOP / "crates/ledger_batches/vectors")]
+sys.path[:0] = [str(TOP / "tests"), str(TOP / "crates/batch_cases/vectors")]
 from appended import raised  # noqa: E402
 from checks import Checks, ran  # noqa: E402
 from reference import follow, local, spelling  # noqa: E402

@@ -16,15 +16,11 @@
 #![tactic(auto)]
 
 mod applying;
-#[cfg(test)]
-mod current_tests;
 mod family;
 mod merkleized;
 mod reading;
 mod sealing;
 mod staged;
-#[cfg(test)]
-mod tests;
 mod unmerkleized;
 
 pub use applying::apply;

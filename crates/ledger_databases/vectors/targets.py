@@ -3,7 +3,7 @@ import pathlib
 import sys
 
 TOP = pathlib.Path(__file__).resolve().parents[3]
-sys.path[:0] = [str(TOP / "tests"), str(TOP / "crates/ledger_batches/vectors")]
+sys.path[:0] = [str(TOP / "tests"), str(TOP / "crates/batch_cases/vectors")]
 from appended import floor_of, grown, spelled  # noqa: E402
 from rules import root, varint  # noqa: E402
 

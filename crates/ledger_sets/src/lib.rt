@@ -18,8 +18,6 @@ mod reading;
 mod sealed;
 mod sealing;
 mod store;
-#[cfg(test)]
-mod tests;
 
 pub use applying::apply;
 pub use batch::SetBatch;
