@@ -6,6 +6,7 @@ use sync_dial::MemoryDialer;
 use sync_program::run_sync;
 use sync_server::TapeLink;
 
+mod promised;
 mod served;
 mod vectors;
 
