@@ -1,8 +1,9 @@
-//! A generated job over a sink that never fails: the clause that supposes so promises it without a premise.
-ghost use Rattle.std.specs.Prelude.{◌≡◌, ◌⊎◌, ◌∷◌, [], IfOk, codes, map, string_bytes};
+//! A generated job over a sink that never fails: the clauses that suppose so promise it without a premise.
+ghost use Rattle.std.specs.Prelude.{◌≡◌, ◌⊎◌, ◌∷◌, [], IfOk, IsSome, codes, map, string_bytes};
 
 use crate::run_generate;
 use ledger_codec::{Sink, SinkError};
+use ledger_program::Outcome;
 use std::alloc::{AllocError, Global};
 use std::random::RandomSource;
 use std::test::Fail;
@@ -43,16 +44,19 @@ fn small(alloc: Global) -> Result<Vec<String>, AllocError>
     Ok(words)
 }
 
-/// The status of that job over such a sink: it settles, or memory is wanting.
-fn settled<R: RandomSource + Threads + Sync>(rt: &R, alloc: Global) -> Result<u8, AllocError>
-    ensures { IfOk result (λ status. (status ≡ 0) ⊎ (status ≡ 11)) }
+/// The outcome of that job over such a sink: it settles and is reported, or memory is wanting.
+fn settled<R: RandomSource + Threads + Sync>(rt: &R, alloc: Global) -> Result<Outcome, AllocError>
+    ensures complete { IfOk result (λ outcome. (outcome.status ≡ 0) ⊎ (outcome.status ≡ 11)) }
+    ensures reported { IfOk result (λ outcome. (outcome.status ≡ 11) ⊎ IsSome outcome.report) }
 {
     let words = small(alloc)?;
-    Ok(run_generate(rt, alloc, &words, &mut Taking).status)
+    Ok(run_generate(rt, alloc, &words, &mut Taking))
 }
 
 #[test]
 fn a_small_job_settles(rt: HostRuntime) -> Result<(), Fail> {
-    assert_eq!(rt; settled(&rt, rt.alloc())?, 0);
+    let Outcome { status, report, .. } = settled(&rt, rt.alloc())?;
+    assert_eq!(rt; status, 0);
+    assert_eq!(rt; report.map(|report| report.size.get()), Some(11));
     Ok(())
 }
