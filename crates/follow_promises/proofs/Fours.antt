@@ -46,10 +46,10 @@ repeated (suc n) b (suc i) lt = repeated n b i lt
 key_bytes : (b : ℕ) → b < 256 → Is32Bytes (replicate 32 b)
 key_bytes b lt = (refl, λ i. repeated 32 b i lt)
 
-commit_sound : IsSoundAny (CommitFloor None 0)
+pub commit_sound : IsSoundAny (CommitFloor None 0)
 commit_sound = (tt, lit≤ tt)
 
-update_sound : (key balance nonce : ℕ) → key < 256 → IsSoundAny (update_of key balance nonce)
+pub update_sound : (key balance nonce : ℕ) → key < 256 → IsSoundAny (update_of key balance nonce)
 unfolding update_of
 update_sound key balance nonce lt = (key_bytes key lt, sequenced_value_laws.is_value (record { balance = balance; nonce = nonce }))
 
@@ -84,14 +84,14 @@ some_read : {A : Type 0} (same : A → A → Bool) (a : A) (o : Option A) → Sa
 some_read same a (Some b) h = refl
 some_read same a None h = absurd h
 
-update_readable : (key balance nonce : ℕ) → balance < 2 ^ 64 → nonce < 2 ^ 64 → IsReadable sequenced_values (update_of key balance nonce)
+pub update_readable : (key balance nonce : ℕ) → balance < 2 ^ 64 → nonce < 2 ^ 64 → IsReadable sequenced_values (update_of key balance nonce)
 unfolding update_of
 update_readable key balance nonce b n = some_read sequenced_same (record { balance = balance; nonce = nonce }) (read_sequenced (sequenced_value (record { balance = balance; nonce = nonce }))) (sequenced_value_laws.reads_back (record { balance = balance; nonce = nonce }) (b, n))
 
-four_readable : All (IsReadable sequenced_values) four
+pub four_readable : All (IsReadable sequenced_values) four
 four_readable = all_four (IsReadable sequenced_values) tt (update_readable 1 10 1 (lit≤ tt) (lit≤ tt)) (update_readable 2 20 2 (lit≤ tt) (lit≤ tt)) (update_readable 3 30 3 (lit≤ tt) (lit≤ tt)) (update_readable 4 40 4 (lit≤ tt) (lit≤ tt))
 
-four_whole : IsWhole 0 four
+pub four_whole : IsWhole 0 four
 unfolding four
 four_whole = record { floor = 0; commits = refl; least = lit≤ tt; most = lit≤ tt }
 

@@ -1,2 +1,4 @@
 pub mod Fours
+pub mod Laters
+mod Peering
 mod Runs

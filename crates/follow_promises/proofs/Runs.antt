@@ -55,7 +55,7 @@ no_job : job_of kinds.Follow (63 ∷ []) ≡ Err 1
 unfolding job_of first_offence lines_of line_of fields_of
 no_job = refl
 
-is_follow : form_of (codes "follow" ∷ codes "a" ∷ []) ≡ Some kinds.Follow
+pub is_follow : form_of (codes "follow" ∷ codes "a" ∷ []) ≡ Some kinds.Follow
 is_follow = refl
 
 module _ (words : List (List ℕ)) (text : List ℕ) (over : Over) (are : words ≡ codes "follow" ∷ codes "a" ∷ []) (strange : text ≡ 63 ∷ []) where

@@ -4,6 +4,8 @@ mod binding;
 mod failing;
 mod forged;
 mod four;
+mod later;
+mod peer;
 mod program;
 mod runs;
 mod vectors;

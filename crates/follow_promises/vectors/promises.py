@@ -19,6 +19,9 @@ def account(balance, nonce):
 # The log of four accounts.
 FOUR = [commit(0)] + [update(key, account(10 * key, key)) for key in (1, 2, 3, 4)] + [commit(0)]
 
+# That log with a fifth account behind it.
+FIVE = FOUR + [update(5, account(50, 5)), commit(0)]
+
 
 def account_leaf(at, value):
     """What the leaf of the account with this value at the key of zeros is hashed from."""
@@ -32,6 +35,7 @@ def weak(data):
 
 def constants():
     yield "ROOT_FOUR", "The root of the log of four accounts.", root(FOUR)
+    yield "ROOT_FIVE", "The root of that log with a fifth account behind it.", root(FIVE)
     honest, forged = bytes([1] * 32), bytes([2, 0] + [1] * 30)
     assert weak(account_leaf(1, honest)) == weak(account_leaf(1, forged))
     yield "HONEST", "What the leaf of an account at place 1 is hashed from.", account_leaf(1, honest)

@@ -31,7 +31,7 @@ use sync_server::MemoryLink;
 
 /// The account with this balance and nonce at the key that repeats one byte.
 #[tactic(auto, unfolding(crate::specs::Four::update_of))]
-fn update(key: u8, balance: u64, nonce: u64) -> AnyOp
+pub(super) fn update(key: u8, balance: u64, nonce: u64) -> AnyOp
     ensures { result ≡ update_of key balance nonce }
 {
     AnyOp::Update([key; 32], Sequenced { balance, nonce }.to_value())
@@ -66,7 +66,7 @@ pub(super) fn log(alloc: Global) -> Option<Log<AnyFamily, Sha256Hasher>>
 }
 
 /// The target of the whole log.
-fn whole(log: &Log<AnyFamily, Sha256Hasher>) -> Target
+pub(super) fn whole(log: &Log<AnyFamily, Sha256Hasher>) -> Target
     requires front { log.now.front ≡ 0 }
     requires pinned { log.now.pinned ≡ [] }
     ensures spans { SpansLog result log.now }

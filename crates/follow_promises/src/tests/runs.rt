@@ -36,7 +36,7 @@ impl Source for Empty {
 
 /// A sink that takes all, and tells nothing.
 #[derive(Drop)]
-struct Taking;
+pub(super) struct Taking;
 
 impl Sink for Taking {
     ghost use Rattle.std.specs.Prelude.{None, false};
@@ -100,7 +100,7 @@ fn local(alloc: Global) -> Result<Vec<String>, AllocError>
 }
 
 /// The words `follow a`.
-fn follow(alloc: Global) -> Result<Vec<String>, AllocError>
+pub(super) fn follow(alloc: Global) -> Result<Vec<String>, AllocError>
     ensures { IfOk result (λ words. map string_bytes words.items ≡ codes "follow" ∷ codes "a" ∷ []) }
 {
     let word = String::from_str(alloc, "follow")?;
